@@ -1,0 +1,4 @@
+pub mod CodeBooks
+pub mod SipHash
+pub mod SipSeals
+pub mod Worked

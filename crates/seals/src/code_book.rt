@@ -1,0 +1,71 @@
+ghost use denote.Ref.{now as held};
+ghost use lib.Dec.{lit≤};
+ghost use mathlib.Core.Path.{_≡_};
+ghost use Prim.Native.Nat.{ℕ, _≤_};
+ghost use Rattle.seals.specs.CodeBooks.{wordOf, bookTag, bookTag-fits};
+use crate::byte_count::ByteCount;
+use crate::byte_count::Two;
+use crate::byte_count::TwoByteCount;
+use crate::seal::LAST_STATION;
+use crate::seal::Seal;
+
+/// The code-book seal: a book of 256 words of 16 bits for each station, lent in one list by station number.
+#[derive(Clone, Copy)]
+pub struct CodeBook<'a> {
+    words: &'a [u16],
+}
+
+impl<'a> CodeBook<'a> {
+    /// The seal over these words.
+    pub fn new(words: &'a [u16]) -> Self
+        ensures { λ r. ⌜ now (r .words) ≡ now (words .entry) ⌝ }
+    {
+        CodeBook { words }
+    }
+
+    /// The word of a byte in a station's book; a word past the end of the list counts as 0.
+    fn word(&self, station: u8, byte: u8) -> u16
+        ensures { λ r. ⌜ r ≡ wordOf (now (now (self .entry) .words)) station byte ⌝ }
+    {
+        let at = 256 * station as usize + byte as usize;
+        if at < self.words.len() {
+            self.words[at]
+        } else {
+            0
+        }
+    }
+}
+
+pub impl<'a> Seal for CodeBook<'a> as CodeBookSeal {
+    type Width = Two;
+
+    const WIDTH: Two = Two;
+
+    ghost wide = { 2 };
+
+    ghost low = { lit≤ tt };
+
+    ghost high = { lit≤ tt };
+
+    ghost meaning = { λ s j m. bookTag (held (s .words)) j m };
+
+    ghost fits = { λ s j m. bookTag-fits (held (s .words)) j m };
+
+    fn tag_width() -> usize
+        ensures named { λ r. ⌜ r ≡ 2 ⌝ }
+        ensures constant { λ r. ⌜ r ≡ 2 ⌝ }
+    {
+        Self::WIDTH.get()
+    }
+
+    fn tag(&self, station: u8, message: &[u8]) -> u64 {
+        if station > LAST_STATION {
+            return 0;
+        }
+        let mut tag: u16 = 0;
+        for b in message {
+            tag = tag.rotate_left(1) ^ self.word(station, *b);
+        }
+        u64::from(tag)
+    }
+}

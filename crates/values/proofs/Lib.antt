@@ -1,0 +1,5 @@
+mod Fields
+mod Majorities
+mod Members
+mod Soles
+mod Steps

@@ -1,0 +1,4 @@
+pub mod Laws
+pub mod Notices
+pub mod Readings
+pub mod Reports

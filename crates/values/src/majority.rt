@@ -1,0 +1,65 @@
+ghost use lib.ListN.{length};
+ghost use mathlib.Core.Path.{_≡_};
+ghost use Prim.Native.Nat.{ℕ, _≤_};
+ghost use Rattle.std.specs.declared.option.Option.the-variants.{Some};
+ghost use Rattle.values.specs.Reports.{values, votes, majority, Most};
+use crate::choice::ChoiceRule;
+
+/// Gives the value that makes up more than half of the reports that are values, else none.
+#[derive(Clone, Copy)]
+pub struct Majority;
+
+/// How many reports are values.
+fn count_values(reports: &[Option<u64>]) -> usize
+    ensures { λ r. ⌜ r ≡ values (now (reports .entry)) ⌝ }
+{
+    let mut n = 0;
+    for report in reports {
+        if let Some(_) = report {
+            n += 1;
+        }
+    }
+    n
+}
+
+/// How many reports are the value `value`.
+fn count_of(reports: &[Option<u64>], value: u64) -> usize
+    ensures count { λ r. ⌜ r ≡ votes value (now (reports .entry)) ⌝ }
+    ensures few { λ r. ⌜ r ≤ length (now (reports .entry)) ⌝ }
+{
+    let mut n = 0;
+    for report in reports {
+        if let Some(v) = report {
+            if *v == value {
+                n += 1;
+            }
+        }
+    }
+    n
+}
+
+/// The value that makes up more than half of the values.
+fn majority_value(reports: &[Option<u64>]) -> Option<u64>
+    ensures { λ r. ⌜ r ≡ majority (now (reports .entry)) ⌝ }
+{
+    let total = count_values(reports);
+    for report in reports {
+        if let Some(v) = report {
+            if total < 2 * count_of(reports, *v) {
+                return Some(*v);
+            }
+        }
+    }
+    None
+}
+
+pub impl ChoiceRule for Majority as MajorityChoiceRule {
+    ghost meaning = { λ _ rs. majority rs };
+
+    fn choose(&self, reports: &[Option<u64>]) -> Option<u64>
+        ensures value { λ r. ⌜ r ≡ majority (now (reports .entry)) ⌝ }
+        ensures exact { λ r. ⌜ ((v : ℕ) → (r ≡ Some v → Most v (now (reports .entry))) × (Most v (now (reports .entry)) → r ≡ Some v)) ⌝ }
+    {
+        majority_value(reports)
+    }
+}

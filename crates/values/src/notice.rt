@@ -1,0 +1,61 @@
+ghost use mathlib.Core.Path.{_≡_};
+ghost use Rattle.std.specs.declared.option.Option.the-variants.{Some};
+ghost use Rattle.std.specs.Options.{Cases};
+ghost use Rattle.values.specs.Notices.{noticeBits, noticeOf, noticeAllowed, Is-notice};
+use crate::kind::Kind;
+
+/// What became of the balloon.
+#[derive(Clone, Copy)]
+pub enum Notice {
+    Released,
+    Burst,
+    Landed,
+    Lost,
+}
+
+impl Notice {
+    /// The notice that a value of 64 bits stands for, or `None`. `to_bits` gives the value back.
+    pub fn from_bits(bits: u64) -> Option<Notice>
+        ensures value { λ r. ⌜ r ≡ noticeOf bits ⌝ }
+        ensures inverse { λ r. ⌜ Is-notice bits r ⌝ }
+    {
+        match bits {
+            1 => Some(Notice::Released),
+            2 => Some(Notice::Burst),
+            3 => Some(Notice::Landed),
+            4 => Some(Notice::Lost),
+            _ => None,
+        }
+    }
+
+    /// The value of 64 bits that stands for this notice. `from_bits` gives the notice back.
+    pub fn to_bits(self) -> u64
+        ensures value { λ r. ⌜ r ≡ noticeBits self ⌝ }
+        ensures inverse { λ r. ⌜ noticeOf r ≡ Some self ⌝ }
+    {
+        match self {
+            Notice::Released => 1,
+            Notice::Burst => 2,
+            Notice::Landed => 3,
+            Notice::Lost => 4,
+        }
+    }
+}
+
+/// The kind of notices, number 2: it allows the values that stand for a notice.
+#[derive(Clone, Copy)]
+pub struct Notices;
+
+pub impl Kind for Notices as NoticesKind {
+    ghost number = { λ _. 2 };
+
+    ghost allowed = { λ _ v. noticeAllowed v };
+
+    fn id(&self) -> u8 {
+        2
+    }
+
+    fn allows(&self, value: u64) -> bool {
+        Notice::from_bits(value).is_some()
+    }
+}
