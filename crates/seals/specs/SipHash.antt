@@ -80,10 +80,10 @@ intoV3 s m = record { v0 = s .v0; v1 = s .v1; v2 = s .v2; v3 = bitXor (s .v3) m 
 unfoldable pub compress : State → ℕ → State
 compress s m = intoV0 (round (round (intoV3 s m))) m
 
--- the state after the first n words
-abbrev pub absorbed : Key → List ℕ → ℕ → State
-absorbed k m zero = start k
-absorbed k m (suc n) = compress (absorbed k m n) (wordAt m n)
+-- the state after the first n words of a message
+abbrev pub absorbed : State → List ℕ → ℕ → State
+absorbed s m zero = s
+absorbed s m (suc n) = compress (absorbed s m n) (wordAt m n)
 
 -- the four words combined to 64 bits
 abbrev pub combined : State → ℕ
@@ -95,7 +95,7 @@ finish s = combined (round (round (round (round (intoV2 s 255)))))
 
 -- the hash of a message: its whole words, then the last word
 abbrev pub sipHash : Key → List ℕ → ℕ
-sipHash k m = finish (compress (absorbed k m (length m / 8)) (lastWord m))
+sipHash k m = finish (compress (absorbed (start k) m (length m / 8)) (lastWord m))
 
 -- A hash has 64 bits.
 

@@ -4,4 +4,4 @@ use Rattle.seals.proofs.sip_hash.State.compress.Needs as need
 
 pub returns : need.returns
 unfolding compress
-returns c = ap (λ t. intoV0 t (c .args .word)) (c .round-s .ensures ∙ ap round (c .round .ensures))
+returns c = ap (λ t. intoV0 t (c .args .word)) (c .round-mixed .ensures ∙ ap round (c .round .ensures))
