@@ -1,6 +1,5 @@
-ghost use lib.Dec.{lit≤};
 ghost use mathlib.Core.Path.{_≡_};
-ghost use Prim.Native.Nat.{ℕ, _≤_};
+ghost use Prim.Native.Nat.{ℕ};
 
 /// A number of bytes that a type fixes, so that a constant can hold it and a contract can name it.
 pub trait ByteCount: Copy {
@@ -11,26 +10,14 @@ pub trait ByteCount: Copy {
         ensures { λ r. ⌜ r ≡ count ⌝ };
 }
 
-/// Two bytes.
+/// `N` bytes.
 #[derive(Clone, Copy)]
-pub struct Two;
+pub struct Bytes<const N: usize>;
 
-pub impl ByteCount for Two as TwoByteCount {
-    ghost count = { 2 };
+pub impl<const N: usize> ByteCount for Bytes<N> as BytesByteCount {
+    ghost count = { N };
 
     fn get(self) -> usize {
-        2
-    }
-}
-
-/// Eight bytes.
-#[derive(Clone, Copy)]
-pub struct Eight;
-
-pub impl ByteCount for Eight as EightByteCount {
-    ghost count = { 8 };
-
-    fn get(self) -> usize {
-        8
+        N
     }
 }

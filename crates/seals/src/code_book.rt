@@ -4,8 +4,8 @@ ghost use mathlib.Core.Path.{_≡_};
 ghost use Prim.Native.Nat.{ℕ, _≤_};
 ghost use Rattle.seals.specs.CodeBooks.{wordOf, bookTag, bookTag-fits};
 use crate::byte_count::ByteCount;
-use crate::byte_count::Two;
-use crate::byte_count::TwoByteCount;
+use crate::byte_count::Bytes;
+use crate::byte_count::BytesByteCount;
 use crate::seal::LAST_STATION;
 use crate::seal::Seal;
 
@@ -37,9 +37,9 @@ impl<'a> CodeBook<'a> {
 }
 
 pub impl<'a> Seal for CodeBook<'a> as CodeBookSeal {
-    type Width = Two;
+    type Width = Bytes<2>;
 
-    const WIDTH: Two = Two;
+    const WIDTH: Bytes<2> = Bytes;
 
     ghost wide = { 2 };
 

@@ -11,10 +11,8 @@ pub mod sip_seal;
 pub mod worked;
 
 pub use byte_count::ByteCount;
-pub use byte_count::Eight;
-pub use byte_count::EightByteCount;
-pub use byte_count::Two;
-pub use byte_count::TwoByteCount;
+pub use byte_count::Bytes;
+pub use byte_count::BytesByteCount;
 pub use code_book::CodeBook;
 pub use code_book::CodeBookSeal;
 pub use seal::LAST_STATION;

@@ -1,3 +1,4 @@
+ghost use lib.Dec.{eqb};
 ghost use mathlib.Core.List.{List};
 ghost use mathlib.Core.Path.{_≡_};
 ghost use Prim.Native.Nat.{ℕ, _^_, _<_, _≤_};
@@ -35,4 +36,11 @@ pub trait Seal {
     /// The tag of a station over a message.
     fn tag(&self, station: u8, message: &[u8]) -> u64
         ensures { λ r. ⌜ r ≡ meaning (now (self .entry)) station (now (message .entry)) ⌝ };
+
+    /// Whether a tag is the station's over the message.
+    fn verify(&self, station: u8, message: &[u8], tag: u64) -> bool
+        ensures { λ r. ⌜ r ≡ eqb tag (meaning (now (self .entry)) station (now (message .entry))) ⌝ }
+    {
+        tag == self.tag(station, message)
+    }
 }

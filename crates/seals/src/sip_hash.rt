@@ -5,7 +5,7 @@ ghost use Rattle.seals.specs.SipHash.{half1, half2, round as roundOf, start as
 
 /// The four words that SipHash works on.
 #[derive(Clone, Copy)]
-pub struct State {
+struct State {
     v0: u64,
     v1: u64,
     v2: u64,

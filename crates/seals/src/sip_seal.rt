@@ -3,8 +3,8 @@ ghost use mathlib.Core.Path.{_≡_};
 ghost use Prim.Native.Nat.{ℕ, _≤_};
 ghost use Rattle.seals.specs.SipSeals.{sipTag, sipTag-fits};
 use crate::byte_count::ByteCount;
-use crate::byte_count::Eight;
-use crate::byte_count::EightByteCount;
+use crate::byte_count::Bytes;
+use crate::byte_count::BytesByteCount;
 use crate::seal::LAST_STATION;
 use crate::seal::Seal;
 use crate::sip_hash::Key;
@@ -25,9 +25,9 @@ impl SipKeys {
 }
 
 pub impl Seal for SipKeys as SipKeysSeal {
-    type Width = Eight;
+    type Width = Bytes<8>;
 
-    const WIDTH: Eight = Eight;
+    const WIDTH: Bytes<8> = Bytes;
 
     ghost wide = { 8 };
 
