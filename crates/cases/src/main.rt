@@ -1,0 +1,27 @@
+//! The worked cases of the rules and the published vectors, each with what was expected and what came.
+//! Run it in the folder that has `siphash-2-4.txt`.
+mod choice_cases;
+mod kind_cases;
+mod seal_cases;
+mod tally;
+mod vectors;
+
+use std::error::AnyError;
+use tally::Tally;
+
+fn run(rt: &LibcRuntime) -> Result<(), AnyError> {
+    let mut tally = Tally::new();
+    vectors::run(rt, &mut tally)?;
+    seal_cases::run(rt, &mut tally)?;
+    kind_cases::run(rt, &mut tally)?;
+    choice_cases::run(rt, &mut tally)?;
+    println!(rt, "{} cases, {} differ", tally.cases(), tally.differing())?;
+    if tally.differing() > 0 {
+        return Err("a case came out otherwise than expected".into());
+    }
+    Ok(())
+}
+
+fn main(rt: LibcRuntime) -> Result<(), AnyError> {
+    rt.report(run(&rt))
+}
