@@ -1,4 +1,3 @@
-use crate::tally::Outcome;
 use crate::tally::Tally;
 use std::io;
 use values::Kind;
@@ -17,67 +16,87 @@ const GOOD: Reading = Reading {
 };
 
 /// Both kinds at the edges of what they allow.
-pub(crate) fn run(rt: &LibcRuntime, tally: &mut Tally) -> io::Result<()> {
-    let number = Outcome::Count(Readings.id() as usize);
-    tally.case(rt, "kind of readings", Outcome::Count(1), number)?;
-    heights(rt, tally)?;
-    pressures(rt, tally)?;
-    temperatures(rt, tally)?;
-    bits(rt, tally)?;
-    let number = Outcome::Count(Notices.id() as usize);
-    tally.case(rt, "kind of notices", Outcome::Count(2), number)?;
-    notices(rt, tally)
+pub(crate) fn run(tally: &mut Tally) -> io::Result<()> {
+    tally.count("kind of readings", 1, Readings.number() as usize)?;
+    heights(tally)?;
+    pressures(tally)?;
+    temperatures(tally)?;
+    bits(tally)?;
+    tally.count("kind of notices", 2, Notices.number() as usize)?;
+    notices(tally)
 }
 
 /// Whether the kind allows a reading.
-fn reading(rt: &LibcRuntime, tally: &mut Tally, name: &str, reading: Reading, allowed: bool) -> io::Result<()> {
-    let got = Readings.allows(reading.to_bits());
-    tally.case(rt, name, Outcome::Allowed(allowed), Outcome::Allowed(got))
+fn allows(reading: Reading) -> bool {
+    Readings.allows(reading.to_bits())
 }
 
-fn heights(rt: &LibcRuntime, tally: &mut Tally) -> io::Result<()> {
-    for (height, allowed) in [(-501, false), (-500, true), (0, true), (50_000, true), (50_001, false)] {
-        let name = format!(rt.alloc(), "height {height} m")?;
-        reading(rt, tally, name.as_str(), Reading { height, ..GOOD }, allowed)?;
-    }
-    Ok(())
+fn heights(tally: &mut Tally) -> io::Result<()> {
+    height(tally, -501, false)?;
+    height(tally, -500, true)?;
+    height(tally, 50_000, true)?;
+    height(tally, 50_001, false)
 }
 
-fn pressures(rt: &LibcRuntime, tally: &mut Tally) -> io::Result<()> {
-    for (pressure, allowed) in [(0, false), (1, true), (11_000, true), (11_001, false)] {
-        let name = format!(rt.alloc(), "pressure {pressure} tenths of hPa")?;
-        reading(rt, tally, name.as_str(), Reading { pressure, ..GOOD }, allowed)?;
-    }
-    Ok(())
+fn height(tally: &mut Tally, height: i32, allowed: bool) -> io::Result<()> {
+    let name = format!(tally.heap(), "height {height} m")?;
+    tally.allowed(name.as_str(), allowed, allows(Reading { height, ..GOOD }))
 }
 
-fn temperatures(rt: &LibcRuntime, tally: &mut Tally) -> io::Result<()> {
-    for (temperature, allowed) in [(-32_768, false), (-1_001, false), (-1_000, true), (600, true), (601, false)] {
-        let name = format!(rt.alloc(), "temperature {temperature} tenths of a degree")?;
-        reading(rt, tally, name.as_str(), Reading { temperature, ..GOOD }, allowed)?;
-    }
-    Ok(())
+fn pressures(tally: &mut Tally) -> io::Result<()> {
+    pressure(tally, 0, false)?;
+    pressure(tally, 1, true)?;
+    pressure(tally, 11_000, true)?;
+    pressure(tally, 11_001, false)
+}
+
+fn pressure(tally: &mut Tally, pressure: u16, allowed: bool) -> io::Result<()> {
+    let name = format!(tally.heap(), "pressure {pressure} tenths of hPa")?;
+    tally.allowed(name.as_str(), allowed, allows(Reading { pressure, ..GOOD }))
+}
+
+fn temperatures(tally: &mut Tally) -> io::Result<()> {
+    temperature(tally, -32_768, false)?;
+    temperature(tally, -1_001, false)?;
+    temperature(tally, -1_000, true)?;
+    temperature(tally, 600, true)?;
+    temperature(tally, 601, false)
+}
+
+fn temperature(tally: &mut Tally, temperature: i16, allowed: bool) -> io::Result<()> {
+    let name = format!(tally.heap(), "temperature {temperature} tenths of a degree")?;
+    let got = allows(Reading {
+        temperature,
+        ..GOOD
+    });
+    tally.allowed(name.as_str(), allowed, got)
 }
 
 /// A reading's bits, and the reading of bits.
-fn bits(rt: &LibcRuntime, tally: &mut Tally) -> io::Result<()> {
+fn bits(tally: &mut Tally) -> io::Result<()> {
     let lowest = Reading {
         height: -500,
         pressure: 1,
         temperature: -1_000,
     };
-    let got = Outcome::Bits(lowest.to_bits());
-    tally.case(rt, "bits of the lowest reading", Outcome::Bits(0xffff_fe0c_0001_fc18), got)?;
-    let again = Outcome::Bits(Reading::from_bits(0x8000_0000_ffff_8000).to_bits());
-    tally.case(rt, "bits of a reading of bits", Outcome::Bits(0x8000_0000_ffff_8000), again)
+    tally.bits(
+        "bits of the lowest reading",
+        0xffff_fe0c_0001_fc18,
+        lowest.to_bits(),
+    )?;
+    let again = Reading::from_bits(0x8000_0000_ffff_8000).to_bits();
+    tally.bits("bits of a reading of bits", 0x8000_0000_ffff_8000, again)
 }
 
-fn notices(rt: &LibcRuntime, tally: &mut Tally) -> io::Result<()> {
-    for (value, allowed) in [(0, false), (1, true), (2, true), (3, true), (4, true), (5, false), (u64::MAX, false)] {
-        let name = format!(rt.alloc(), "notice {value}")?;
-        let got = Notices.allows(value);
-        tally.case(rt, name.as_str(), Outcome::Allowed(allowed), Outcome::Allowed(got))?;
+fn notices(tally: &mut Tally) -> io::Result<()> {
+    for value in 0..6 {
+        notice(tally, value, 1 <= value && value <= 4)?;
     }
-    let burst = Outcome::Bits(Notice::Burst.to_bits());
-    tally.case(rt, "bits of the notice burst", Outcome::Bits(2), burst)
+    notice(tally, u64::MAX, false)?;
+    tally.bits("bits of the notice burst", 2, Notice::Burst.to_bits())
+}
+
+fn notice(tally: &mut Tally, value: u64, allowed: bool) -> io::Result<()> {
+    let name = format!(tally.heap(), "notice {value}")?;
+    tally.allowed(name.as_str(), allowed, Notices.allows(value))
 }

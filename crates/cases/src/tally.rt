@@ -1,3 +1,5 @@
+use std::alloc::Global;
+use std::error::AnyError;
 use std::fmt;
 use std::io;
 
@@ -27,35 +29,70 @@ pub impl fmt::Display for Outcome as OutcomeDisplay {
     }
 }
 
-/// How many cases were run, and how many came out otherwise than expected.
+/// Prints the cases, and counts how many were run and how many came out otherwise than expected.
 #[derive(Drop)]
-pub struct Tally {
+pub struct Tally<'a> {
+    rt: &'a LibcRuntime,
     cases: u32,
     differing: u32,
 }
 
-impl Tally {
-    pub(crate) fn new() -> Tally {
+impl<'a> Tally<'a> {
+    pub(crate) fn new(rt: &'a LibcRuntime) -> Tally<'a> {
         Tally {
+            rt,
             cases: 0,
             differing: 0,
         }
     }
 
-    pub(crate) fn cases(&self) -> u32 {
-        self.cases
-    }
-
-    pub(crate) fn differing(&self) -> u32 {
-        self.differing
-    }
-
     /// One case: its line, and its place in the count.
-    pub(crate) fn case(&mut self, rt: &LibcRuntime, name: &str, expected: Outcome, got: Outcome) -> io::Result<()> {
+    fn case(&mut self, name: &str, expected: Outcome, got: Outcome) -> io::Result<()> {
         self.cases = self.cases.saturating_add(1);
         if got != expected {
             self.differing = self.differing.saturating_add(1);
         }
-        println!(rt, "{name}: expected {expected}, got {got}")
+        println!(self.rt, "{name}: expected {expected}, got {got}")
+    }
+
+    /// Tags or the bits of a value, in hexadecimal.
+    pub(crate) fn bits(&mut self, name: &str, expected: u64, got: u64) -> io::Result<()> {
+        self.case(name, Outcome::Bits(expected), Outcome::Bits(got))
+    }
+
+    /// A number.
+    pub(crate) fn count(&mut self, name: &str, expected: usize, got: usize) -> io::Result<()> {
+        self.case(name, Outcome::Count(expected), Outcome::Count(got))
+    }
+
+    /// Whether a value is allowed.
+    pub(crate) fn allowed(&mut self, name: &str, expected: bool, got: bool) -> io::Result<()> {
+        self.case(name, Outcome::Allowed(expected), Outcome::Allowed(got))
+    }
+
+    /// A value or none.
+    pub(crate) fn choice(
+        &mut self,
+        name: &str,
+        expected: Option<u64>,
+        got: Option<u64>,
+    ) -> io::Result<()> {
+        self.case(name, Outcome::Choice(expected), Outcome::Choice(got))
+    }
+
+    /// The allocator of the cases' names.
+    pub(crate) fn heap(&self) -> Global {
+        self.rt.alloc()
+    }
+
+    /// The last line; an error if a case came out otherwise than expected.
+    pub(crate) fn close(self) -> Result<(), AnyError> {
+        let cases = self.cases;
+        let differing = self.differing;
+        println!(self.rt, "{cases} cases, {differing} differ")?;
+        if differing > 0 {
+            return Err("a case came out otherwise than expected".into());
+        }
+        Ok(())
     }
 }

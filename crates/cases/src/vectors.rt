@@ -1,4 +1,3 @@
-use crate::tally::Outcome;
 use crate::tally::Tally;
 use seals::Key;
 use std::error::AnyError;
@@ -10,14 +9,14 @@ pub(crate) fn run(rt: &LibcRuntime, tally: &mut Tally) -> Result<(), AnyError> {
     let key = Key::new(&[0, 1, 2, 3, 4, 5, 6, 7, 8, 9, 10, 11, 12, 13, 14, 15]);
     for line in text.as_str().lines() {
         if !line.starts_with('#') {
-            vector(rt, tally, key, line)?;
+            vector(tally, key, line)?;
         }
     }
     Ok(())
 }
 
 /// One vector.
-fn vector(rt: &LibcRuntime, tally: &mut Tally, key: Key, line: &str) -> Result<(), AnyError> {
+fn vector(tally: &mut Tally, key: Key, line: &str) -> Result<(), AnyError> {
     let Some((length, hash)) = line.split_once(' ') else {
         return Err("a vector is a length and a hash".into());
     };
@@ -27,9 +26,8 @@ fn vector(rt: &LibcRuntime, tally: &mut Tally, key: Key, line: &str) -> Result<(
     if length > message.len() {
         return Err("the vectors' messages have at most 64 bytes".into());
     }
-    let name = format!(rt.alloc(), "SipHash-2-4 of {length} bytes")?;
-    let got = key.hash(&message[0..length]);
-    tally.case(rt, name.as_str(), Outcome::Bits(expected), Outcome::Bits(got))?;
+    let name = format!(tally.heap(), "SipHash-2-4 of {length} bytes")?;
+    tally.bits(name.as_str(), expected, key.hash(&message[0..length]))?;
     Ok(())
 }
 

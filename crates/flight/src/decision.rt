@@ -1,4 +1,5 @@
 use crate::show;
+use crate::show::ReportDisplay;
 use std::io;
 use values::ChoiceRule;
 use values::Majority;
@@ -6,10 +7,9 @@ use values::MajorityChoiceRule;
 use values::Reading;
 use values::Sole;
 use values::SoleChoiceRule;
-use crate::show::ReportDisplay;
 
 /// Stations 1 to 4 report what they hold: two the sender's value, one nothing, one another value.
-pub fn tell(rt: &LibcRuntime, value: u64) -> io::Result<()> {
+pub(crate) fn tell(rt: &LibcRuntime, value: u64) -> io::Result<()> {
     let other = Reading {
         height: 9164,
         pressure: 3000,
@@ -28,9 +28,18 @@ pub fn tell(rt: &LibcRuntime, value: u64) -> io::Result<()> {
 
 /// What both rules give for the reports.
 fn decide(rt: &LibcRuntime, who: &str, reports: &[Option<u64>]) -> io::Result<()> {
-    let sole = show::Report(Sole.choose(reports));
-    let majority = show::Report(Majority.choose(reports));
     println!(rt, "  {who}:")?;
-    println!(rt, "    sole value: {sole}")?;
-    println!(rt, "    majority:   {majority}")
+    choose(rt, "sole value", &Sole, reports)?;
+    choose(rt, "majority", &Majority, reports)
+}
+
+/// What a rule gives for the reports.
+fn choose<C: ChoiceRule>(
+    rt: &LibcRuntime,
+    name: &str,
+    rule: &C,
+    reports: &[Option<u64>],
+) -> io::Result<()> {
+    let chosen = show::Report(rule.choose(reports));
+    println!(rt, "    {name}: {chosen}")
 }

@@ -5,6 +5,7 @@ mod message;
 mod sealing;
 mod show;
 
+use crate::show::ShownDisplay;
 use message::Header;
 use seals::CodeBook;
 use seals::CodeBookSeal;
@@ -17,7 +18,6 @@ use values::Kind;
 use values::Reading;
 use values::Readings;
 use values::ReadingsKind;
-use crate::show::ShownDisplay;
 
 /// The keys of the bench: byte i of station j's key is 16 j + i.
 fn bench_keys() -> [Key; 7] {
@@ -45,9 +45,14 @@ fn take_reading(rt: &LibcRuntime) -> io::Result<Header> {
     println!(rt, "The reading")?;
     println!(rt, "  {shown}")?;
     println!(rt, "  as 64 bits: {value:016x}")?;
-    println!(rt, "  allowed in kind {}: {}", kind.id(), show::yes_no(kind.allows(value)))?;
+    println!(
+        rt,
+        "  allowed in kind {}: {}",
+        kind.number(),
+        show::yes_no(kind.allows(value))
+    )?;
     Ok(Header {
-        kind: kind.id(),
+        kind: kind.number(),
         sounding: 1,
         level: 7,
         value,

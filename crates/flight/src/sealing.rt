@@ -1,17 +1,18 @@
 use crate::message::Header;
 use crate::show;
+use crate::show::HexDisplay;
 use seals::Seal;
 use std::io;
-use crate::show::HexDisplay;
 
 /// The sender seals the header, a receiver checks it as sent, as sent by another station, and with each byte changed.
-pub fn tell<S: Seal>(rt: &LibcRuntime, seal: &S, header: &Header) -> io::Result<()> {
+pub(crate) fn tell<S: Seal>(rt: &LibcRuntime, seal: &S, header: &Header) -> io::Result<()> {
     let message = header.sealed_by_sender(0);
     let tag = seal.tag(0, &message);
     let width = S::tag_width();
+    let digits = 2 * width;
     let shown = show::Hex(&message);
     println!(rt, "  station 0 seals {shown}")?;
-    println!(rt, "  with the tag {tag:x}, of {width} bytes")?;
+    println!(rt, "  with the tag {tag:0digits$x}, of {width} bytes")?;
     let good = show::yes_no(seal.verify(0, &message, tag));
     println!(rt, "  station 2 checks it: good {good}")?;
     let other = show::yes_no(seal.verify(1, &message, tag));
@@ -22,7 +23,10 @@ pub fn tell<S: Seal>(rt: &LibcRuntime, seal: &S, header: &Header) -> io::Result<
     println!(rt, "  a byte is changed: {shown}")?;
     let found = seal.tag(0, &changed);
     let still = show::yes_no(seal.verify(0, &changed, tag));
-    println!(rt, "  station 2 finds the tag {found:x}: good {still}")?;
+    println!(
+        rt,
+        "  station 2 finds the tag {found:0digits$x}: good {still}"
+    )?;
     let detected = changes_detected(seal, &message, tag);
     println!(rt, "  of the 120 changes of one bit it detects {detected}")
 }

@@ -27,7 +27,12 @@ pub impl fmt::Display for Shown as ShownDisplay {
         let pressure = self.0.pressure;
         let sign = if self.0.temperature < 0 { "-" } else { "" };
         let tenths = self.0.temperature.unsigned_abs();
-        write!(f, "height {height} m, pressure {}.{} hPa, ", pressure / 10, pressure % 10)?;
+        write!(
+            f,
+            "height {height} m, pressure {}.{} hPa, ",
+            pressure / 10,
+            pressure % 10
+        )?;
         write!(f, "temperature {sign}{}.{} °C", tenths / 10, tenths % 10)
     }
 }
@@ -49,6 +54,6 @@ pub impl fmt::Display for Report as ReportDisplay {
 }
 
 /// `yes` or `no`.
-pub fn yes_no(answer: bool) -> &'static str {
+pub(crate) fn yes_no(answer: bool) -> &'static str {
     if answer { "yes" } else { "no" }
 }

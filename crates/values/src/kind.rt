@@ -16,7 +16,7 @@ pub trait Kind {
     law high: { (k : Self) → number k ≤ 255 };
 
     /// The kind's number.
-    fn id(&self) -> u8
+    fn number(&self) -> u8
         ensures { λ r. ⌜ r ≡ number (now (self .entry)) ⌝ };
 
     /// Whether the kind allows a value.

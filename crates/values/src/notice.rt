@@ -46,13 +46,18 @@ impl Notice {
 #[derive(Clone, Copy)]
 pub struct Notices;
 
+impl Notices {
+    /// The kind's number.
+    pub const NUMBER: u8 = 2;
+}
+
 pub impl Kind for Notices as NoticesKind {
     ghost number = { λ _. 2 };
 
     ghost allowed = { λ _ v. noticeAllowed v };
 
-    fn id(&self) -> u8 {
-        2
+    fn number(&self) -> u8 {
+        Notices::NUMBER
     }
 
     fn allows(&self, value: u64) -> bool {

@@ -54,13 +54,18 @@ impl Reading {
 #[derive(Clone, Copy)]
 pub struct Readings;
 
+impl Readings {
+    /// The kind's number.
+    pub const NUMBER: u8 = 1;
+}
+
 pub impl Kind for Readings as ReadingsKind {
     ghost number = { λ _. 1 };
 
     ghost allowed = { λ _ v. readingAllowed v };
 
-    fn id(&self) -> u8 {
-        1
+    fn number(&self) -> u8 {
+        Readings::NUMBER
     }
 
     fn allows(&self, value: u64) -> bool {

@@ -12,11 +12,12 @@ pub loop-i-holds : need.loop-i-holds
 loop-i-holds c = (length-replicate {A = ℕ} 1792 0, below-none _)
 
 pub loop-i-again : need.loop-i-again
-loop-i-again c =
-    (simp length-set (c .loop-i .inv .0),
-    below-more _ _
-    (λ k h. let ne : k ≢ c .loop-i .i = omega arith in rw getD-set-other (c .loop-i .inv .1 k h))
-    (let lt : c .loop-i .i < length (c .loop-i .words) = omega (arith, c .loop-i .inv .0) in rw getD-set-same))
+loop-i-again c = (
+  simp length-set (c .loop-i .inv .0),
+  below-more _ _
+      (λ k h. let ne : k ≢ c .loop-i .i = omega arith in rw getD-set-other (c .loop-i .inv .1 k h))
+      (let lt : c .loop-i .i < length (c .loop-i .words) = omega (arith, c .loop-i .inv .0) in rw getD-set-same),
+)
 
 pub returns : need.returns
 returns c =

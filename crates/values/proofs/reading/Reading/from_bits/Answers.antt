@@ -19,5 +19,5 @@ returns c =
     let ft : SFits w16 t = search needs in
     let small : v < 2 ^ 64 = search needs in
     let is = parts v _ _ _ (toZ-ofZ w32 h fh ∙ c .cast-signed .ensures) (and-mask (v / 2 ^ 16) 16)
-        (toZ-ofZ w16 t ft ∙ c .cast-signed-2 .ensures ∙ ap (toZ w16) (and-mask v 16)) in
+    (toZ-ofZ w16 t ft ∙ c .cast-signed-2 .ensures ∙ ap (toZ w16) (and-mask v 16)) in
     record { value = is; inverse = ap readingBits is ∙ bits-again v small }

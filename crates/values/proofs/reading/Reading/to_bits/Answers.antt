@@ -18,6 +18,6 @@ returns c =
     let p : c .from-pressure .result < 2 ^ 16 = search needs in
     let t : c .from-temperature .result < 2 ^ 16 = search needs in
     let is = joined r (c .from-height .result) (c .from-pressure .result) (c .from-temperature .result)
-        (c .from-height .ensures ∙ c .cast-unsigned .ensures ∙ ap (ofZ w32) (toZ-ofZ w32 (r .height) fh)) (c .from-pressure .ensures)
-        (c .from-temperature .ensures ∙ c .cast-unsigned-2 .ensures ∙ ap (ofZ w16) (toZ-ofZ w16 (r .temperature) ft)) h p t in
+    (c .from-height .ensures ∙ c .cast-unsigned .ensures ∙ ap (ofZ w32) (toZ-ofZ w32 (r .height) fh)) (c .from-pressure .ensures)
+    (c .from-temperature .ensures ∙ c .cast-unsigned-2 .ensures ∙ ap (ofZ w16) (toZ-ofZ w16 (r .temperature) ft)) h p t in
     record { value = is; inverse = ap readingOf is ∙ reading-again r fh fp ft }
