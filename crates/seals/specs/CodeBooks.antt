@@ -16,10 +16,14 @@ rotated t = bitOr (t * 2 % 2 ^ 16) (t / 2 ^ 15)
 abbrev pub wordOf : List ℕ → ℕ → ℕ → ℕ
 wordOf books j b = getD books (256 * j + b) 0 % 2 ^ 16
 
--- the tag t carried on over a message: for each byte rotated, then combined with the byte's word
+-- a tag rotated, then combined with a word
+abbrev pub mixed : ℕ → ℕ → ℕ
+mixed t word = bitXor (rotated t) word
+
+-- the tag t carried on over a message, byte by byte
 abbrev pub carried : List ℕ → ℕ → ℕ → List ℕ → ℕ
 carried books j t [] = t
-carried books j t (b ∷ m) = carried books j (bitXor (rotated t) (wordOf books j b)) m
+carried books j t (b ∷ m) = carried books j (mixed t (wordOf books j b)) m
 
 -- the tag of station j over the message m: it starts at 0, and a number above 6 has the tag 0
 abbrev pub bookTag : List ℕ → ℕ → List ℕ → ℕ

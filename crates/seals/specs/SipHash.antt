@@ -90,7 +90,7 @@ abbrev pub combined : State → ℕ
 combined s = bitXor (bitXor (bitXor (s .v0) (s .v1)) (s .v2)) (s .v3) % 2 ^ 64
 
 -- 255 goes into v2, four rounds follow, and the words are combined
-unfoldable pub finish : State → ℕ
+abbrev pub finish : State → ℕ
 finish s = combined (round (round (round (round (intoV2 s 255)))))
 
 -- the hash of a message: its whole words, then the last word
@@ -100,5 +100,4 @@ sipHash k m = finish (compress (absorbed (start k) m (length m / 8)) (lastWord m
 -- A hash has 64 bits.
 
 pub finish-fits : (s : State) → finish s < 2 ^ 64
-unfolding finish
 finish-fits s = omega arith

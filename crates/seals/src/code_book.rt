@@ -1,8 +1,9 @@
 ghost use denote.Ref.{now as held};
 ghost use lib.Dec.{lit≤};
+ghost use lib.ListN.{getD};
 ghost use mathlib.Core.Path.{_≡_};
 ghost use Prim.Native.Nat.{ℕ, _≤_};
-ghost use Rattle.seals.specs.CodeBooks.{wordOf, bookTag, bookTag-fits};
+ghost use Rattle.seals.specs.CodeBooks.{wordOf, mixed, carried, bookTag, bookTag-fits};
 use crate::byte_count::ByteCount;
 use crate::byte_count::Bytes;
 use crate::byte_count::BytesByteCount;
@@ -27,13 +28,33 @@ impl<'a> CodeBook<'a> {
     fn word(&self, station: u8, byte: u8) -> u16
         ensures { λ r. ⌜ r ≡ wordOf (now (now (self .entry) .words)) station byte ⌝ }
     {
-        let at = 256 * station as usize + byte as usize;
-        if at < self.words.len() {
-            self.words[at]
-        } else {
-            0
-        }
+        entry(self.words, 256 * station as usize + byte as usize)
     }
+
+    /// The tag carried on over the bytes of a message.
+    fn carry(&self, station: u8, message: &[u8]) -> u16
+        ensures { λ r. ⌜ r ≡ carried (now (now (self .entry) .words)) station 0 (now (message .entry)) ⌝ }
+    {
+        let mut tag = 0;
+        for byte in message {
+            tag = mix(tag, self.word(station, *byte));
+        }
+        tag
+    }
+}
+
+/// A word of the list, 0 past its end.
+fn entry(words: &[u16], at: usize) -> u16
+    ensures { λ r. ⌜ r ≡ getD (now (words .entry)) at 0 ⌝ }
+{
+    if at < words.len() { words[at] } else { 0 }
+}
+
+/// A tag rotated left by one bit, then combined with a word by exclusive or.
+fn mix(tag: u16, word: u16) -> u16
+    ensures { λ r. ⌜ r ≡ mixed tag word ⌝ }
+{
+    tag.rotate_left(1) ^ word
 }
 
 pub impl<'a> Seal for CodeBook<'a> as CodeBookSeal {
@@ -62,10 +83,6 @@ pub impl<'a> Seal for CodeBook<'a> as CodeBookSeal {
         if station > LAST_STATION {
             return 0;
         }
-        let mut tag: u16 = 0;
-        for b in message {
-            tag = tag.rotate_left(1) ^ self.word(station, *b);
-        }
-        u64::from(tag)
+        u64::from(self.carry(station, message))
     }
 }

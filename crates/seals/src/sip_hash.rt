@@ -1,7 +1,7 @@
-ghost use lib.ListN.{length};
+ghost use lib.ListN.{length, drop};
 ghost use mathlib.Core.Path.{_≡_};
-ghost use Prim.Native.Nat.{ℕ, _+_, _*_, _≤_};
-ghost use Rattle.seals.specs.SipHash.{half1, half2, round as roundOf, start as startOf, compress as compressed, finish as finished, wordAt, lastWord, keyOf, sipHash};
+ghost use Prim.Native.Nat.{ℕ, _+_, _*_, _/_, _^_, _≤_, _<_};
+ghost use Rattle.seals.specs.SipHash.{half1, half2, round as roundOf, start as startOf, compress as compressed, absorbed, intoV2, combined, finish as finished, little, wordAt, lastWord, keyOf, sipHash};
 
 /// The four words that SipHash works on.
 #[derive(Clone, Copy)]
@@ -34,11 +34,10 @@ impl Key {
     pub fn hash(self, message: &[u8]) -> u64
         ensures { λ r. ⌜ r ≡ sipHash self (now (message .entry)) ⌝ }
     {
-        let mut state = State::start(self);
-        for i in 0..message.len() / 8 {
-            state = state.compress(word_at(message, i));
-        }
-        state.compress(last_word(message)).finish()
+        State::start(self)
+            .absorb(message)
+            .compress(last_word(message))
+            .finish()
     }
 }
 
@@ -107,16 +106,39 @@ impl State {
         }
     }
 
+    /// The whole words of a message.
+    fn absorb(self, message: &[u8]) -> State
+        ensures { λ r. ⌜ r ≡ absorbed self (now (message .entry)) (length (now (message .entry)) / 8) ⌝ }
+    {
+        let mut state = self;
+        for i in 0..message.len() / 8 {
+            state = state.compress(word_at(message, i));
+        }
+        state
+    }
+
+    /// The mark that no word of the message makes.
+    fn mark(self) -> State
+        ensures { λ r. ⌜ r ≡ intoV2 self 255 ⌝ }
+    {
+        State {
+            v2: self.v2 ^ 0xff,
+            ..self
+        }
+    }
+
+    /// The four words combined.
+    fn combine(self) -> u64
+        ensures { λ r. ⌜ r ≡ combined self ⌝ }
+    {
+        self.v0 ^ self.v1 ^ self.v2 ^ self.v3
+    }
+
     /// The hash, after four rounds more.
     fn finish(self) -> u64
         ensures { λ r. ⌜ r ≡ finished self ⌝ }
     {
-        let marked = State {
-            v2: self.v2 ^ 0xff,
-            ..self
-        };
-        let mixed = marked.round().round().round().round();
-        mixed.v0 ^ mixed.v1 ^ mixed.v2 ^ mixed.v3
+        self.mark().round().round().round().round().combine()
     }
 }
 
@@ -138,14 +160,21 @@ fn word_at(bytes: &[u8], i: usize) -> u64
     ])
 }
 
+/// The bytes behind the whole words, as a number.
+fn tail(message: &[u8]) -> u64
+    ensures value { λ r. ⌜ r ≡ little (drop (8 * (length (now (message .entry)) / 8)) (now (message .entry))) ⌝ }
+    ensures bound { λ r. ⌜ r < 2 ^ 56 ⌝ }
+{
+    let mut word = 0;
+    for i in (8 * (message.len() / 8)..message.len()).rev() {
+        word = 256 * word + u64::from(message[i]);
+    }
+    word
+}
+
 /// The last word: the bytes behind the whole words, and the message's length in the high byte.
 fn last_word(message: &[u8]) -> u64
     ensures { λ r. ⌜ r ≡ lastWord (now (message .entry)) ⌝ }
 {
-    let len = message.len();
-    let mut word = 0;
-    for i in (8 * (len / 8)..len).rev() {
-        word = 256 * word + u64::from(message[i]);
-    }
-    word + ((len % 256) as u64) * 0x100_0000_0000_0000
+    tail(message) + ((message.len() % 256) as u64) * 0x100_0000_0000_0000
 }

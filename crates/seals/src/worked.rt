@@ -1,33 +1,59 @@
 //! Worked examples: their numbers are theorems about the definitions, and what the code gives.
+ghost use lib.ListN.{length};
 ghost use mathlib.Core.Path.{_≡_};
-ghost use Prim.Native.Nat.{ℕ};
+ghost use Prim.Native.Nat.{ℕ, _≤_};
+ghost use Rattle.seals.specs.CodeBooks.{bookTag};
+ghost use Rattle.seals.specs.SipHash.{keyOf, sipHash};
 ghost use Rattle.seals.specs.Worked.{countFrom, Worked-tags, Published-hash};
 use crate::code_book::CodeBook;
 use crate::code_book::CodeBookSeal;
 use crate::seal::Seal;
 use crate::sip_hash::Key;
 
+/// Numbers the words from 0 on.
+fn count_up(words: &mut [u16])
+    requires { ⌜ length (now words) ≤ 65536 ⌝ }
+    ensures { λ _. ⌜ now (words .exit) ≡ countFrom 0 (length (now (words .entry))) ⌝ }
+{
+    for i in 0..words.len() {
+        words[i] = i as u16;
+    }
+}
+
 /// The books of the worked example: word b of station j is 256 j + b, so that word i of the list is i.
 pub fn counting_words() -> [u16; 1792]
     ensures { λ r. ⌜ r ≡ countFrom 0 1792 ⌝ }
 {
     let mut words = [0u16; 1792];
-    for i in 0..1792u16 {
-        words[i as usize] = i;
-    }
+    count_up(&mut words);
     words
 }
 
-/// Two tags under the books that count: of station 0 over what a sender seals, of station 1 over what it relays.
+/// A station's tag under these books.
+fn counting_tag(station: u8, message: &[u8]) -> u64
+    ensures { λ r. ⌜ r ≡ bookTag (countFrom 0 1792) station (now (message .entry)) ⌝ }
+{
+    CodeBook::new(&counting_words()).tag(station, message)
+}
+
+/// Two tags under these books: of station 0 over a notice that it sends, of station 1 over that notice as it relays it.
 pub fn worked_tags() -> (u64, u64)
     ensures rules { λ _. ⌜ Worked-tags ⌝ }
     ensures value { λ r. ⌜ r ≡ (0xAA04, 0x6BF7) ⌝ }
 {
-    let words = counting_words();
-    let seal = CodeBook::new(&words);
-    let sent = seal.tag(0, &[2, 1, 0, 1, 0, 1, 0, 0, 0, 0, 0, 0, 0, 2, 0]);
-    let relayed = seal.tag(1, &[2, 2, 0, 1, 0, 1, 0, 0, 0, 0, 0, 0, 0, 2, 0, 1]);
+    let sent = counting_tag(0, &[2, 1, 0, 1, 0, 1, 0, 0, 0, 0, 0, 0, 0, 2, 0]);
+    let relayed = counting_tag(1, &[2, 2, 0, 1, 0, 1, 0, 0, 0, 0, 0, 0, 0, 2, 0, 1]);
     (sent, relayed)
+}
+
+/// The hash of the first bytes of 0, 1, .., 15 under the key of all of them.
+fn counting_hash(len: usize) -> u64
+    requires { ⌜ len ≤ 16 ⌝ }
+    ensures rules { λ _. ⌜ Published-hash ⌝ }
+    ensures value { λ r. ⌜ r ≡ sipHash (keyOf (countFrom 0 16)) (countFrom 0 len) ⌝ }
+{
+    let bytes = [0, 1, 2, 3, 4, 5, 6, 7, 8, 9, 10, 11, 12, 13, 14, 15];
+    Key::new(&bytes).hash(&bytes[0..len])
 }
 
 /// The hash of the bytes 0 to 14 under the key of the bytes 0 to 15, as its authors published it.
@@ -35,6 +61,5 @@ pub fn published_hash() -> u64
     ensures rules { λ _. ⌜ Published-hash ⌝ }
     ensures value { λ r. ⌜ r ≡ 0xa129ca6149be45e5 ⌝ }
 {
-    let key = Key::new(&[0, 1, 2, 3, 4, 5, 6, 7, 8, 9, 10, 11, 12, 13, 14, 15]);
-    key.hash(&[0, 1, 2, 3, 4, 5, 6, 7, 8, 9, 10, 11, 12, 13, 14])
+    counting_hash(15)
 }

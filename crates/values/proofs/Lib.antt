@@ -1,4 +1,3 @@
-mod Fields
 mod Majorities
 mod Members
 mod Soles

@@ -85,11 +85,12 @@ some-values v (Some x ∷ rs) k = omega arith
 pub majority-silent : None-without-value majority
 majority-silent rs h = silent-leader rs rs h
 
-pub majority-most : (rs : List (Option ℕ)) (v : ℕ) → majority rs ≡ Some v → Most v rs
-majority-most rs v e = leader-most rs rs v e
-
-pub most-majority : (rs : List (Option ℕ)) (v : ℕ) → Most v rs → majority rs ≡ Some v
+most-majority : (rs : List (Option ℕ)) (v : ℕ) → Most v rs → majority rs ≡ Some v
 most-majority rs v m = most-leader rs rs v m (voted-reported v rs (omega arith))
 
 pub only-majority : Sole-value-given majority
 only-majority rs v o = most-majority rs v (omega (arith, only-votes v rs (o .1), some-values v rs (o .0)))
+
+-- what the rule gives, in its own words
+pub majority-exact : (rs : List (Option ℕ)) (r : Option ℕ) → r ≡ majority rs → (v : ℕ) → (r ≡ Some v → Most v rs) × (Most v rs → r ≡ Some v)
+majority-exact rs r is v = (λ e. leader-most rs rs v (sym is ∙ e), λ m. is ∙ most-majority rs v m)

@@ -53,7 +53,7 @@ sole-silent rs h = rw (silent-first rs h)
 pub only-sole : Sole-value-given sole
 only-sole rs v o = rw (only-first rs v (o .0) (o .1), agree-all v rs (o .1))
 
-pub sole-only : (rs : List (Option ℕ)) (v : ℕ) → sole rs ≡ Some v → Only v rs
+sole-only : (rs : List (Option ℕ)) (v : ℕ) → sole rs ≡ Some v → Only v rs
 sole-only rs v e = at (firstValue rs) refl e
   where
     at : (o : Option ℕ) → firstValue rs ≡ o → soleOf o rs ≡ Some v → Only v rs
@@ -65,3 +65,7 @@ sole-only rs v e = at (firstValue rs) refl e
         split true a e =
             let same : x ≡ v = cc in
             subst (λ y. Only y rs) same (first-reported rs x f, all-agree x rs a)
+
+-- what the rule gives, in its own words
+pub sole-exact : (rs : List (Option ℕ)) (r : Option ℕ) → r ≡ sole rs → (v : ℕ) → (r ≡ Some v → Only v rs) × (Only v rs → r ≡ Some v)
+sole-exact rs r is v = (λ e. sole-only rs v (sym is ∙ e), λ o. is ∙ only-sole rs v o)

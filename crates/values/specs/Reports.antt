@@ -56,11 +56,14 @@ votes v (Some w ∷ rs) = cond (eqb w v) (1 + votes v rs) (votes v rs)
 abbrev pub Most : ℕ → List (Option ℕ) → Type 0
 Most v rs = values rs < 2 * votes v rs
 
+abbrev pub leading : ℕ → List (Option ℕ) → Bool
+leading v rs = ltb (values rs) (2 * votes v rs)
+
 -- the first value of the list rs that makes up more than half of the values of all
 abbrev pub leader : List (Option ℕ) → List (Option ℕ) → Option ℕ
 leader all [] = None
 leader all (None ∷ rs) = leader all rs
-leader all (Some v ∷ rs) = cond (ltb (values all) (2 * votes v all)) (Some v) (leader all rs)
+leader all (Some v ∷ rs) = cond (leading v all) (Some v) (leader all rs)
 
 abbrev pub majority : List (Option ℕ) → Option ℕ
 majority rs = leader rs rs

@@ -2,7 +2,7 @@ ghost use lib.ListN.{length};
 ghost use mathlib.Core.Path.{_≡_};
 ghost use Prim.Native.Nat.{ℕ, _≤_};
 ghost use Rattle.std.specs.declared.option.Option.the-variants.{Some};
-ghost use Rattle.values.specs.Reports.{values, votes, majority, Most};
+ghost use Rattle.values.specs.Reports.{values, votes, leading, majority, Most};
 use crate::choice::ChoiceRule;
 
 /// Gives the value that makes up more than half of the reports that are values, else none.
@@ -38,14 +38,23 @@ fn count_of(reports: &[Option<u64>], value: u64) -> usize
     n
 }
 
-/// The value that makes up more than half of the values.
+/// Whether `value` makes up more than half of the reports that are values, of which there are `total`.
+fn leads(reports: &[Option<u64>], value: u64, total: usize) -> bool
+    requires { ⌜ total ≡ values (now reports) ⌝ }
+    ensures { λ r. ⌜ r ≡ leading value (now (reports .entry)) ⌝ }
+{
+    total < 2 * count_of(reports, value)
+}
+
+/// The value that makes up more than half of the reports that are values.
 fn majority_value(reports: &[Option<u64>]) -> Option<u64>
-    ensures { λ r. ⌜ r ≡ majority (now (reports .entry)) ⌝ }
+    ensures value { λ r. ⌜ r ≡ majority (now (reports .entry)) ⌝ }
+    ensures exact { λ r. ⌜ ((v : ℕ) → (r ≡ Some v → Most v (now (reports .entry))) × (Most v (now (reports .entry)) → r ≡ Some v)) ⌝ }
 {
     let total = count_values(reports);
     for report in reports {
         if let Some(v) = report {
-            if total < 2 * count_of(reports, *v) {
+            if leads(reports, *v, total) {
                 return Some(*v);
             }
         }

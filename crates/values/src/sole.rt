@@ -1,7 +1,7 @@
 ghost use mathlib.Core.Path.{_≡_};
 ghost use Prim.Native.Nat.{ℕ};
 ghost use Rattle.std.specs.declared.option.Option.the-variants.{Some};
-ghost use Rattle.values.specs.Reports.{firstValue, agree, sole, Only};
+ghost use Rattle.values.specs.Reports.{firstValue, agree, soleOf, sole, Only};
 use crate::choice::ChoiceRule;
 
 /// Gives the value if the list has exactly one distinct value, else none.
@@ -34,14 +34,22 @@ fn all_are(reports: &[Option<u64>], value: u64) -> bool
     true
 }
 
-/// The value if there is exactly one distinct value.
-fn sole_value(reports: &[Option<u64>]) -> Option<u64>
-    ensures { λ r. ⌜ r ≡ sole (now (reports .entry)) ⌝ }
+/// The first value, if every value is that one.
+fn unless_others(first: Option<u64>, reports: &[Option<u64>]) -> Option<u64>
+    ensures { λ r. ⌜ r ≡ soleOf first (now (reports .entry)) ⌝ }
 {
-    match first_value(reports) {
+    match first {
         Some(v) => if all_are(reports, v) { Some(v) } else { None },
         None => None,
     }
+}
+
+/// The value if there is exactly one distinct value.
+fn sole_value(reports: &[Option<u64>]) -> Option<u64>
+    ensures value { λ r. ⌜ r ≡ sole (now (reports .entry)) ⌝ }
+    ensures exact { λ r. ⌜ ((v : ℕ) → (r ≡ Some v → Only v (now (reports .entry))) × (Only v (now (reports .entry)) → r ≡ Some v)) ⌝ }
+{
+    unless_others(first_value(reports), reports)
 }
 
 pub impl ChoiceRule for Sole as SoleChoiceRule {
