@@ -1,13 +1,13 @@
 use crate::tally::Tally;
 use seals::CodeBook;
 use seals::CodeBookSeal;
-use seals::Key;
 use seals::Seal;
 use seals::SipKeys;
 use seals::SipKeysSeal;
 use seals::counting_words;
-use seals::published_hash;
 use seals::worked_tags;
+use siphash::Key;
+use siphash::published_hash;
 use std::io;
 
 /// Both seals: the worked tags, tag widths, and station numbers at the limit.

@@ -1,5 +1,5 @@
 use crate::tally::Tally;
-use seals::Key;
+use siphash::Key;
 use std::error::AnyError;
 use std::fs;
 

@@ -1,4 +1,3 @@
 pub mod CodeBooks
-pub mod SipHash
 pub mod SipSeals
 pub mod Worked

@@ -4,8 +4,8 @@ use mathlib.Core.Bool.{true, false, cond}
 use Prim.Native.Nat.{ℕ, _^_, _<_}
 use lib.Dec.{ltb, lit<}
 use lib.ListN.{getD}
-use Rattle.seals.specs.declared.sip_hash.Key.{Key}
-use Rattle.seals.specs.SipHash.{sipHash, finish-fits}
+use Rattle.siphash.specs.declared.key.Key.{Key}
+use Rattle.siphash.specs.SipHash.{sipHash, finish-fits}
 
 -- the tag of station j over the message m under the list of the stations' keys: a number above 6 has the tag 0
 abbrev pub sipTag : List Key → ℕ → List ℕ → ℕ

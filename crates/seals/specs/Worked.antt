@@ -1,9 +1,8 @@
--- Worked examples of both seals.
+-- A worked example of the code-book seal.
 use mathlib.Core.List.{List, [], _∷_}
 use mathlib.Core.Path.{_≡_}
 use Prim.Native.Nat.{ℕ, zero, suc, _+_}
 use Rattle.seals.specs.CodeBooks.{bookTag}
-use Rattle.seals.specs.SipHash.{keyOf, sipHash}
 
 -- n numbers from k on
 abbrev pub countFrom : ℕ → ℕ → List ℕ
@@ -21,7 +20,3 @@ relayedBytes = 2 ∷ 2 ∷ 0 ∷ 1 ∷ 0 ∷ 1 ∷ 0 ∷ 0 ∷ 0 ∷ 0 ∷ 0 ∷
 abbrev pub Worked-tags : Type 0
 Worked-tags =
     (bookTag (countFrom 0 1792) 0 sentBytes ≡ 0xAA04) × (bookTag (countFrom 0 1792) 1 relayedBytes ≡ 0x6BF7)
-
--- the published hash of the bytes 0 to 14 under the key of the bytes 0 to 15
-abbrev pub Published-hash : Type 0
-Published-hash = sipHash (keyOf (countFrom 0 16)) (countFrom 0 15) ≡ 0xa129ca6149be45e5

@@ -6,7 +6,6 @@
 pub mod byte_count;
 pub mod code_book;
 pub mod seal;
-pub mod sip_hash;
 pub mod sip_seal;
 pub mod worked;
 
@@ -17,9 +16,7 @@ pub use code_book::CodeBook;
 pub use code_book::CodeBookSeal;
 pub use seal::LAST_STATION;
 pub use seal::Seal;
-pub use sip_hash::Key;
 pub use sip_seal::SipKeys;
 pub use sip_seal::SipKeysSeal;
 pub use worked::counting_words;
-pub use worked::published_hash;
 pub use worked::worked_tags;

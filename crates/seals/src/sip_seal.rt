@@ -7,7 +7,7 @@ use crate::byte_count::Bytes;
 use crate::byte_count::BytesByteCount;
 use crate::seal::LAST_STATION;
 use crate::seal::Seal;
-use crate::sip_hash::Key;
+use siphash::Key;
 
 /// The long seal: SipHash-2-4 under a key for each of stations 0 to 6.
 #[derive(Clone, Copy)]

@@ -1,14 +1,12 @@
-//! Worked examples: their numbers are theorems about the definitions, and what the code gives.
+//! A worked example: its numbers are a theorem about the definitions, and what the code gives.
 ghost use lib.ListN.{length};
 ghost use mathlib.Core.Path.{_≡_};
 ghost use Prim.Native.Nat.{ℕ, _≤_};
 ghost use Rattle.seals.specs.CodeBooks.{bookTag};
-ghost use Rattle.seals.specs.SipHash.{keyOf, sipHash};
-ghost use Rattle.seals.specs.Worked.{countFrom, Worked-tags, Published-hash};
+ghost use Rattle.seals.specs.Worked.{countFrom, Worked-tags};
 use crate::code_book::CodeBook;
 use crate::code_book::CodeBookSeal;
 use crate::seal::Seal;
-use crate::sip_hash::Key;
 
 /// Numbers the words from 0 on.
 fn count_up(words: &mut [u16])
@@ -44,22 +42,4 @@ pub fn worked_tags() -> (u64, u64)
     let sent = counting_tag(0, &[2, 1, 0, 1, 0, 1, 0, 0, 0, 0, 0, 0, 0, 2, 0]);
     let relayed = counting_tag(1, &[2, 2, 0, 1, 0, 1, 0, 0, 0, 0, 0, 0, 0, 2, 0, 1]);
     (sent, relayed)
-}
-
-/// The hash of the first bytes of 0, 1, .., 15 under the key of all of them.
-fn counting_hash(len: usize) -> u64
-    requires { ⌜ len ≤ 16 ⌝ }
-    ensures rules { λ _. ⌜ Published-hash ⌝ }
-    ensures value { λ r. ⌜ r ≡ sipHash (keyOf (countFrom 0 16)) (countFrom 0 len) ⌝ }
-{
-    let bytes = [0, 1, 2, 3, 4, 5, 6, 7, 8, 9, 10, 11, 12, 13, 14, 15];
-    Key::new(&bytes).hash(&bytes[0..len])
-}
-
-/// The hash of the bytes 0 to 14 under the key of the bytes 0 to 15, as its authors published it.
-pub fn published_hash() -> u64
-    ensures rules { λ _. ⌜ Published-hash ⌝ }
-    ensures value { λ r. ⌜ r ≡ 0xa129ca6149be45e5 ⌝ }
-{
-    counting_hash(15)
 }

@@ -1,7 +1,0 @@
-use mathlib.Core.Path.{_∙_}
-use Prim.Native.Nat.{_*_}
-use Rattle.seals.proofs.Words.{eight}
-use Rattle.seals.proofs.sip_hash.word_at.Needs as need
-
-pub returns : need.returns
-returns c = c .from-le-bytes .ensures ∙ eight (c .args .bytes .now) (8 * c .args .i) (c .pre)

@@ -1,0 +1,3 @@
+pub mod Rotations
+pub mod SipHash
+pub mod Worked
