@@ -1,3 +1,4 @@
+use crate::tally::Outcome;
 use crate::tally::Tally;
 use std::io;
 use values::Kind;
@@ -17,59 +18,150 @@ const GOOD: Reading = Reading {
 
 /// Both kinds at the edges of what they allow.
 pub(crate) fn run(tally: &mut Tally) -> io::Result<()> {
-    tally.count("kind of readings", 1, Readings.number() as usize)?;
+    tally.bits("kind", "of readings", 1, u64::from(Readings.number()))?;
     heights(tally)?;
     pressures(tally)?;
     temperatures(tally)?;
     bits(tally)?;
-    tally.count("kind of notices", 2, Notices.number() as usize)?;
+    tally.bits("kind", "of notices", 2, u64::from(Notices.number()))?;
     notices(tally)
 }
 
 /// Whether the kind allows a reading.
-fn allows(reading: Reading) -> bool {
-    Readings.allows(reading.to_bits())
+fn reading(tally: &mut Tally, name: &str, allowed: bool, reading: Reading) -> io::Result<()> {
+    let got = Readings.allows(reading.to_bits());
+    tally.case(
+        "reading,",
+        name,
+        Outcome::Allowed(allowed),
+        Outcome::Allowed(got),
+    )
 }
 
 fn heights(tally: &mut Tally) -> io::Result<()> {
-    height(tally, -501, false)?;
-    height(tally, -500, true)?;
-    height(tally, 50_000, true)?;
-    height(tally, 50_001, false)
-}
-
-fn height(tally: &mut Tally, height: i32, allowed: bool) -> io::Result<()> {
-    let name = format!(tally.heap(), "height {height} m")?;
-    tally.allowed(name.as_str(), allowed, allows(Reading { height, ..GOOD }))
+    reading(
+        tally,
+        "height -501 m",
+        false,
+        Reading {
+            height: -501,
+            ..GOOD
+        },
+    )?;
+    reading(
+        tally,
+        "height -500 m",
+        true,
+        Reading {
+            height: -500,
+            ..GOOD
+        },
+    )?;
+    reading(
+        tally,
+        "height 50000 m",
+        true,
+        Reading {
+            height: 50_000,
+            ..GOOD
+        },
+    )?;
+    reading(
+        tally,
+        "height 50001 m",
+        false,
+        Reading {
+            height: 50_001,
+            ..GOOD
+        },
+    )
 }
 
 fn pressures(tally: &mut Tally) -> io::Result<()> {
-    pressure(tally, 0, false)?;
-    pressure(tally, 1, true)?;
-    pressure(tally, 11_000, true)?;
-    pressure(tally, 11_001, false)
-}
-
-fn pressure(tally: &mut Tally, pressure: u16, allowed: bool) -> io::Result<()> {
-    let name = format!(tally.heap(), "pressure {pressure} tenths of hPa")?;
-    tally.allowed(name.as_str(), allowed, allows(Reading { pressure, ..GOOD }))
+    reading(
+        tally,
+        "pressure 0.0 hPa",
+        false,
+        Reading {
+            pressure: 0,
+            ..GOOD
+        },
+    )?;
+    reading(
+        tally,
+        "pressure 0.1 hPa",
+        true,
+        Reading {
+            pressure: 1,
+            ..GOOD
+        },
+    )?;
+    reading(
+        tally,
+        "pressure 1100.0 hPa",
+        true,
+        Reading {
+            pressure: 11_000,
+            ..GOOD
+        },
+    )?;
+    reading(
+        tally,
+        "pressure 1100.1 hPa",
+        false,
+        Reading {
+            pressure: 11_001,
+            ..GOOD
+        },
+    )
 }
 
 fn temperatures(tally: &mut Tally) -> io::Result<()> {
-    temperature(tally, -32_768, false)?;
-    temperature(tally, -1_001, false)?;
-    temperature(tally, -1_000, true)?;
-    temperature(tally, 600, true)?;
-    temperature(tally, 601, false)
-}
-
-fn temperature(tally: &mut Tally, temperature: i16, allowed: bool) -> io::Result<()> {
-    let name = format!(tally.heap(), "temperature {temperature} tenths of a degree")?;
-    let got = allows(Reading {
-        temperature,
-        ..GOOD
-    });
-    tally.allowed(name.as_str(), allowed, got)
+    reading(
+        tally,
+        "temperature -3276.8 °C",
+        false,
+        Reading {
+            temperature: -32_768,
+            ..GOOD
+        },
+    )?;
+    reading(
+        tally,
+        "temperature -100.1 °C",
+        false,
+        Reading {
+            temperature: -1_001,
+            ..GOOD
+        },
+    )?;
+    reading(
+        tally,
+        "temperature -100.0 °C",
+        true,
+        Reading {
+            temperature: -1_000,
+            ..GOOD
+        },
+    )?;
+    reading(
+        tally,
+        "temperature 60.0 °C",
+        true,
+        Reading {
+            temperature: 600,
+            ..GOOD
+        },
+    )?;
+    reading(
+        tally,
+        "temperature 60.1 °C",
+        false,
+        Reading {
+            temperature: 601,
+            ..GOOD
+        },
+    )
 }
 
 /// A reading's bits, and the reading of bits.
@@ -80,23 +172,31 @@ fn bits(tally: &mut Tally) -> io::Result<()> {
         temperature: -1_000,
     };
     tally.bits(
-        "bits of the lowest reading",
+        "reading,",
+        "lowest, bits",
         0xffff_fe0c_0001_fc18,
         lowest.to_bits(),
     )?;
     let again = Reading::from_bits(0x8000_0000_ffff_8000).to_bits();
-    tally.bits("bits of a reading of bits", 0x8000_0000_ffff_8000, again)
+    tally.bits("reading,", "of bits, bits", 0x8000_0000_ffff_8000, again)
 }
 
 fn notices(tally: &mut Tally) -> io::Result<()> {
-    for value in 0..6 {
-        notice(tally, value, 1 <= value && value <= 4)?;
-    }
-    notice(tally, u64::MAX, false)?;
-    tally.bits("bits of the notice burst", 2, Notice::Burst.to_bits())
+    notice(tally, "0", false, 0)?;
+    notice(tally, "1", true, 1)?;
+    notice(tally, "4", true, 4)?;
+    notice(tally, "5", false, 5)?;
+    notice(tally, "2^64 - 1", false, u64::MAX)?;
+    tally.bits("notice", "burst, bits", 2, Notice::Burst.to_bits())
 }
 
-fn notice(tally: &mut Tally, value: u64, allowed: bool) -> io::Result<()> {
-    let name = format!(tally.heap(), "notice {value}")?;
-    tally.allowed(name.as_str(), allowed, Notices.allows(value))
+/// Whether the kind allows a notice.
+fn notice(tally: &mut Tally, name: &str, allowed: bool, value: u64) -> io::Result<()> {
+    let got = Notices.allows(value);
+    tally.case(
+        "notice",
+        name,
+        Outcome::Allowed(allowed),
+        Outcome::Allowed(got),
+    )
 }

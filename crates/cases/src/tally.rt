@@ -1,4 +1,3 @@
-use std::alloc::Global;
 use std::error::AnyError;
 use std::fmt;
 use std::io;
@@ -6,10 +5,8 @@ use std::io;
 /// What came of a case.
 #[derive(Clone, Copy, PartialEq, Eq)]
 pub enum Outcome {
-    /// A tag, or the bits of a value.
+    /// A number, in hexadecimal.
     Bits(u64),
-    /// A number.
-    Count(usize),
     /// Whether a value is allowed.
     Allowed(bool),
     /// A value or none.
@@ -20,11 +17,10 @@ pub impl fmt::Display for Outcome as OutcomeDisplay {
     fn fmt<W: fmt::Write>(&self, f: &mut fmt::Formatter<W>) -> fmt::Result {
         match *self {
             Outcome::Bits(bits) => write!(f, "{bits:x}"),
-            Outcome::Count(n) => write!(f, "{n}"),
-            Outcome::Allowed(true) => write!(f, "allowed"),
-            Outcome::Allowed(false) => write!(f, "not allowed"),
+            Outcome::Allowed(true) => f.write_str("allowed"),
+            Outcome::Allowed(false) => f.write_str("not allowed"),
             Outcome::Choice(Some(value)) => write!(f, "{value}"),
-            Outcome::Choice(None) => write!(f, "none"),
+            Outcome::Choice(None) => f.write_str("none"),
         }
     }
 }
@@ -47,42 +43,29 @@ impl<'a> Tally<'a> {
     }
 
     /// One case: its line, and its place in the count.
-    fn case(&mut self, name: &str, expected: Outcome, got: Outcome) -> io::Result<()> {
+    pub(crate) fn case(
+        &mut self,
+        subject: &str,
+        name: &str,
+        expected: Outcome,
+        got: Outcome,
+    ) -> io::Result<()> {
         self.cases = self.cases.saturating_add(1);
         if got != expected {
             self.differing = self.differing.saturating_add(1);
         }
-        println!(self.rt, "{name}: expected {expected}, got {got}")
+        println!(self.rt, "{subject} {name}: expected {expected}, got {got}")
     }
 
-    /// Tags or the bits of a value, in hexadecimal.
-    pub(crate) fn bits(&mut self, name: &str, expected: u64, got: u64) -> io::Result<()> {
-        self.case(name, Outcome::Bits(expected), Outcome::Bits(got))
-    }
-
-    /// A number.
-    pub(crate) fn count(&mut self, name: &str, expected: usize, got: usize) -> io::Result<()> {
-        self.case(name, Outcome::Count(expected), Outcome::Count(got))
-    }
-
-    /// Whether a value is allowed.
-    pub(crate) fn allowed(&mut self, name: &str, expected: bool, got: bool) -> io::Result<()> {
-        self.case(name, Outcome::Allowed(expected), Outcome::Allowed(got))
-    }
-
-    /// A value or none.
-    pub(crate) fn choice(
+    /// One case of a number.
+    pub(crate) fn bits(
         &mut self,
+        subject: &str,
         name: &str,
-        expected: Option<u64>,
-        got: Option<u64>,
+        expected: u64,
+        got: u64,
     ) -> io::Result<()> {
-        self.case(name, Outcome::Choice(expected), Outcome::Choice(got))
-    }
-
-    /// The allocator of the cases' names.
-    pub(crate) fn heap(&self) -> Global {
-        self.rt.alloc()
+        self.case(subject, name, Outcome::Bits(expected), Outcome::Bits(got))
     }
 
     /// The last line; an error if a case came out otherwise than expected.

@@ -5,7 +5,7 @@ ghost use Rattle.values.specs.Notices.{noticeBits, noticeOf, noticeAllowed, Is
 use crate::kind::Kind;
 
 /// What became of the balloon.
-#[derive(Clone, Copy)]
+#[derive(Clone, Copy, PartialEq, Eq, Debug)]
 pub enum Notice {
     Released,
     Burst,

@@ -6,7 +6,7 @@ ghost use Rattle.values.specs.Readings.{readingBits, readingOf, inRange, readi
 use crate::kind::Kind;
 
 /// A level reading.
-#[derive(Clone, Copy)]
+#[derive(Clone, Copy, PartialEq, Eq, Debug)]
 pub struct Reading {
     /// Height in metres.
     pub height: i32,
