@@ -46,7 +46,7 @@ pub impl fmt::Display for Report as ReportDisplay {
         match self.0 {
             Some(value) => {
                 let reading = Shown(Reading::from_bits(value));
-                write!(f, "{reading}")
+                write!(f, "{value:016x}, {reading}")
             }
             None => write!(f, "none"),
         }

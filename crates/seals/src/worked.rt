@@ -1,20 +1,20 @@
 //! A worked example: its numbers are a theorem about the definitions, and what the code gives.
 ghost use lib.ListN.{length};
 ghost use mathlib.Core.Path.{_≡_};
-ghost use Prim.Native.Nat.{ℕ, _≤_};
+ghost use Prim.Native.Nat.{_+_, _≤_};
 ghost use Rattle.seals.specs.CodeBooks.{bookTag};
 ghost use Rattle.seals.specs.Worked.{countFrom, Worked-tags};
 use crate::code_book::CodeBook;
 use crate::code_book::CodeBookSeal;
 use crate::seal::Seal;
 
-/// Numbers the words from 0 on.
-fn count_up(words: &mut [u16])
-    requires { ⌜ length (now words) ≤ 65536 ⌝ }
-    ensures { λ _. ⌜ now (words .exit) ≡ countFrom 0 (length (now (words .entry))) ⌝ }
+/// Numbers the words from `first` on.
+fn count_from(words: &mut [u16], first: u16)
+    requires { ⌜ first + length (now words) ≤ 65536 ⌝ }
+    ensures { λ _. ⌜ now (words .exit) ≡ countFrom first (length (now (words .entry))) ⌝ }
 {
     for i in 0..words.len() {
-        words[i] = i as u16;
+        words[i] = first + i as u16;
     }
 }
 
@@ -23,7 +23,7 @@ pub fn counting_words() -> [u16; 1792]
     ensures { λ r. ⌜ r ≡ countFrom 0 1792 ⌝ }
 {
     let mut words = [0u16; 1792];
-    count_up(&mut words);
+    count_from(&mut words, 0);
     words
 }
 

@@ -10,7 +10,7 @@ use Rattle.std.proofs.shelf.Tests.{lt-ltb, ltb-true, ltb-false, eq-eqb, ne-eqb,
 use Rattle.std.specs.declared.option.Option.{Option}
 use Rattle.std.specs.declared.option.Option.the-variants.{Some, None}
 use Rattle.values.specs.Reports.{Reported, first, later, Only, values, votes, Most, leader, majority}
-use Rattle.values.specs.Laws.{None-without-value, Sole-value-given}
+use Rattle.values.specs.Laws.{None-without-value, Unanimous-value-given}
 use Rattle.values.proofs.Members.{none-given, here-or-later}
 
 -- a value with votes is reported
@@ -88,7 +88,7 @@ majority-silent rs h = silent-leader rs rs h
 most-majority : (rs : List (Option ℕ)) (v : ℕ) → Most v rs → majority rs ≡ Some v
 most-majority rs v m = most-leader rs rs v m (voted-reported v rs (omega arith))
 
-pub only-majority : Sole-value-given majority
+pub only-majority : Unanimous-value-given majority
 only-majority rs v o = most-majority rs v (omega (arith, only-votes v rs (o .1), some-values v rs (o .0)))
 
 -- what the rule gives, in its own words

@@ -9,7 +9,7 @@ use Rattle.std.proofs.shelf.Tests.{eq-eqb, eqb-true, false≢true}
 use Rattle.std.specs.declared.option.Option.{Option}
 use Rattle.std.specs.declared.option.Option.the-variants.{Some, None}
 use Rattle.values.specs.Reports.{Reported, first, later, Only, firstValue, agree, soleOf, sole}
-use Rattle.values.specs.Laws.{None-without-value, Sole-value-given}
+use Rattle.values.specs.Laws.{None-without-value, Unanimous-value-given}
 use Rattle.values.proofs.Members.{none-given, here-or-later}
 
 -- the first value is reported
@@ -50,7 +50,7 @@ all-agree v (Some x ∷ rs) e w k = split (eqb x v) refl (λ h. all-agree v rs h
 pub sole-silent : None-without-value sole
 sole-silent rs h = rw (silent-first rs h)
 
-pub only-sole : Sole-value-given sole
+pub only-sole : Unanimous-value-given sole
 only-sole rs v o = rw (only-first rs v (o .0) (o .1), agree-all v rs (o .1))
 
 sole-only : (rs : List (Option ℕ)) (v : ℕ) → sole rs ≡ Some v → Only v rs

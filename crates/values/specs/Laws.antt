@@ -11,5 +11,5 @@ abbrev pub None-without-value : (List (Option ℕ) → Option ℕ) → Type 0
 None-without-value choose = (rs : List (Option ℕ)) → ((v : ℕ) → Reported v rs → ⊥) → choose rs ≡ None
 
 -- if all values in the list are equal, and there is at least one, that value is given
-abbrev pub Sole-value-given : (List (Option ℕ) → Option ℕ) → Type 0
-Sole-value-given choose = (rs : List (Option ℕ)) (v : ℕ) → Only v rs → choose rs ≡ Some v
+abbrev pub Unanimous-value-given : (List (Option ℕ) → Option ℕ) → Type 0
+Unanimous-value-given choose = (rs : List (Option ℕ)) (v : ℕ) → Only v rs → choose rs ≡ Some v

@@ -1,12 +1,11 @@
 use mathlib.Core.Logic.{_≢_}
-use mathlib.Core.Path.{_∙_}
 use Prim.Native.Nat.{_<_}
 use native.Mathlib.Omega.{arith}
 use borrow.Author.Count.{below-more}
 use lib.ListN.{length}
 use lib.Seq.{getD-set-same, getD-set-other}
 use Rattle.seals.proofs.Counting.{counts}
-use Rattle.seals.proofs.worked.count_up.Needs as need
+use Rattle.seals.proofs.worked.count_from.Needs as need
 
 pub loop-i-again : need.loop-i-again
 loop-i-again c =
@@ -16,5 +15,4 @@ loop-i-again c =
 
 pub returns : need.returns
 returns c =
-    counts (c .loop-i .words) 0 (length (c .args .words .now)) (c .loop-i .kept .words)
-    (λ k h. c .loop-i .inv k (omega arith) ∙ omega arith)
+    counts (c .loop-i .words) (c .args .first) (length (c .args .words .now)) (c .loop-i .kept .words) (λ k h. c .loop-i .inv k (omega arith))
