@@ -39,129 +39,41 @@ fn reading(tally: &mut Tally, name: &str, allowed: bool, reading: Reading) -> io
 }
 
 fn heights(tally: &mut Tally) -> io::Result<()> {
-    reading(
-        tally,
-        "height -501 m",
-        false,
-        Reading {
-            height: -501,
-            ..GOOD
-        },
-    )?;
-    reading(
-        tally,
-        "height -500 m",
-        true,
-        Reading {
-            height: -500,
-            ..GOOD
-        },
-    )?;
-    reading(
-        tally,
-        "height 50000 m",
-        true,
-        Reading {
-            height: 50_000,
-            ..GOOD
-        },
-    )?;
-    reading(
-        tally,
-        "height 50001 m",
-        false,
-        Reading {
-            height: 50_001,
-            ..GOOD
-        },
-    )
+    height(tally, "height -501 m", false, -501)?;
+    height(tally, "height -500 m", true, -500)?;
+    height(tally, "height 50000 m", true, 50_000)?;
+    height(tally, "height 50001 m", false, 50_001)
+}
+
+fn height(tally: &mut Tally, name: &str, allowed: bool, height: i32) -> io::Result<()> {
+    reading(tally, name, allowed, Reading { height, ..GOOD })
 }
 
 fn pressures(tally: &mut Tally) -> io::Result<()> {
-    reading(
-        tally,
-        "pressure 0.0 hPa",
-        false,
-        Reading {
-            pressure: 0,
-            ..GOOD
-        },
-    )?;
-    reading(
-        tally,
-        "pressure 0.1 hPa",
-        true,
-        Reading {
-            pressure: 1,
-            ..GOOD
-        },
-    )?;
-    reading(
-        tally,
-        "pressure 1100.0 hPa",
-        true,
-        Reading {
-            pressure: 11_000,
-            ..GOOD
-        },
-    )?;
-    reading(
-        tally,
-        "pressure 1100.1 hPa",
-        false,
-        Reading {
-            pressure: 11_001,
-            ..GOOD
-        },
-    )
+    pressure(tally, "pressure 0.0 hPa", false, 0)?;
+    pressure(tally, "pressure 0.1 hPa", true, 1)?;
+    pressure(tally, "pressure 1100.0 hPa", true, 11_000)?;
+    pressure(tally, "pressure 1100.1 hPa", false, 11_001)
+}
+
+fn pressure(tally: &mut Tally, name: &str, allowed: bool, pressure: u16) -> io::Result<()> {
+    reading(tally, name, allowed, Reading { pressure, ..GOOD })
 }
 
 fn temperatures(tally: &mut Tally) -> io::Result<()> {
-    reading(
-        tally,
-        "temperature -3276.8 °C",
-        false,
-        Reading {
-            temperature: -32_768,
-            ..GOOD
-        },
-    )?;
-    reading(
-        tally,
-        "temperature -100.1 °C",
-        false,
-        Reading {
-            temperature: -1_001,
-            ..GOOD
-        },
-    )?;
-    reading(
-        tally,
-        "temperature -100.0 °C",
-        true,
-        Reading {
-            temperature: -1_000,
-            ..GOOD
-        },
-    )?;
-    reading(
-        tally,
-        "temperature 60.0 °C",
-        true,
-        Reading {
-            temperature: 600,
-            ..GOOD
-        },
-    )?;
-    reading(
-        tally,
-        "temperature 60.1 °C",
-        false,
-        Reading {
-            temperature: 601,
-            ..GOOD
-        },
-    )
+    temperature(tally, "temperature -3276.8 °C", false, -32_768)?;
+    temperature(tally, "temperature -100.1 °C", false, -1_001)?;
+    temperature(tally, "temperature -100.0 °C", true, -1_000)?;
+    temperature(tally, "temperature 60.0 °C", true, 600)?;
+    temperature(tally, "temperature 60.1 °C", false, 601)
+}
+
+fn temperature(tally: &mut Tally, name: &str, allowed: bool, temperature: i16) -> io::Result<()> {
+    let changed = Reading {
+        temperature,
+        ..GOOD
+    };
+    reading(tally, name, allowed, changed)
 }
 
 /// A reading's bits, and the reading of bits.
