@@ -3,6 +3,7 @@ ghost use Prim.Native.Nat.{ℕ};
 
 /// A number of bytes that a type fixes, so that a constant can hold it and a contract can name it.
 pub trait ByteCount: Copy {
+    /// The number, for contracts.
     ghost count: { ℕ };
 
     /// The number.

@@ -10,6 +10,7 @@ pub const LAST_STATION: u8 = 6;
 /// A fixed function from a station number and a message to a tag, a number of `WIDTH` bytes.
 /// Asking for a tag changes nothing and is never refused.
 pub trait Seal {
+    /// The type of `WIDTH`, which fixes its number.
     type Width: ByteCount;
 
     /// How many bytes a tag takes, 1 to 8.
@@ -18,8 +19,10 @@ pub trait Seal {
     /// `WIDTH` as a number, for contracts.
     ghost wide: { ℕ };
 
+    /// A tag takes at least one byte.
     ghost low: { 1 ≤ wide };
 
+    /// A tag takes at most eight bytes.
     ghost high: { wide ≤ 8 };
 
     /// The tag of a station over a message.

@@ -11,8 +11,10 @@ pub trait Kind {
     /// Whether a value is one of this kind.
     ghost allowed: { Self → ℕ → Bool };
 
+    /// No kind has the number 0.
     law low: { (k : Self) → 1 ≤ number k };
 
+    /// The number takes one byte.
     law high: { (k : Self) → number k ≤ 255 };
 
     /// The kind's number.

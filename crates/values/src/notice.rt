@@ -7,9 +7,13 @@ use crate::kind::Kind;
 /// What became of the balloon.
 #[derive(Clone, Copy, PartialEq, Eq, Debug)]
 pub enum Notice {
+    /// It left the ground: value 1.
     Released,
+    /// It burst at its greatest height: value 2.
     Burst,
+    /// The sonde is on the ground: value 3.
     Landed,
+    /// Nothing more is heard of it: value 4.
     Lost,
 }
 
