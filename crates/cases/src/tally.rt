@@ -1,3 +1,4 @@
+use crate::counts::Counts;
 use std::error::AnyError;
 use std::fmt;
 use std::io;
@@ -29,16 +30,17 @@ pub impl fmt::Display for Outcome as OutcomeDisplay {
 #[derive(Drop)]
 pub struct Tally<'a> {
     rt: &'a LibcRuntime,
-    cases: u32,
-    differing: u32,
+    counts: Counts,
 }
 
 impl<'a> Tally<'a> {
     pub(crate) fn new(rt: &'a LibcRuntime) -> Tally<'a> {
         Tally {
             rt,
-            cases: 0,
-            differing: 0,
+            counts: Counts {
+                cases: 0,
+                differing: 0,
+            },
         }
     }
 
@@ -50,10 +52,7 @@ impl<'a> Tally<'a> {
         expected: Outcome,
         got: Outcome,
     ) -> io::Result<()> {
-        self.cases = self.cases.saturating_add(1);
-        if got != expected {
-            self.differing = self.differing.saturating_add(1);
-        }
+        self.counts.count(got != expected);
         println!(self.rt, "{subject} {name}: expected {expected}, got {got}")
     }
 
@@ -70,8 +69,7 @@ impl<'a> Tally<'a> {
 
     /// The last line; an error if a case came out otherwise than expected.
     pub(crate) fn close(self) -> Result<(), AnyError> {
-        let cases = self.cases;
-        let differing = self.differing;
+        let Counts { cases, differing } = self.counts;
         println!(self.rt, "{cases} cases, {differing} differ")?;
         if differing > 0 {
             return Err("a case came out otherwise than expected".into());

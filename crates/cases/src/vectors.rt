@@ -20,17 +20,21 @@ fn vector(tally: &mut Tally, line: &str) -> Result<(), AnyError> {
         return Err("a vector is a length and a hash".into());
     };
     let expected = u64::from_str_radix(hash, 16)?;
-    let got = counting_hash(length.parse::<usize>()?);
+    let Some(got) = counting_hash(length.parse::<usize>()?) else {
+        return Err("a vector's message has at most 64 bytes".into());
+    };
     tally.bits("SipHash-2-4 of the bytes below", length, expected, got)?;
     Ok(())
 }
 
-/// The hash of the bytes 0, 1, .. of the given length, at most 64, under the key of the bytes 0 to 15.
-fn counting_hash(length: usize) -> u64 {
+/// The hash of the bytes 0, 1, .. of the given length under the key of the bytes 0 to 15; none if it is above 64.
+fn counting_hash(length: usize) -> Option<u64> {
     let key = Key::new(&[0, 1, 2, 3, 4, 5, 6, 7, 8, 9, 10, 11, 12, 13, 14, 15]);
     let bytes = counting_bytes();
-    let end = if length < 64 { length } else { 64 };
-    key.hash(&bytes[0..end])
+    if length > 64 {
+        return None;
+    }
+    Some(key.hash(&bytes[0..length]))
 }
 
 /// The bytes 0 to 63.

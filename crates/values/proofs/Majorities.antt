@@ -9,7 +9,7 @@ use native.Mathlib.Omega.{arith}
 use Rattle.std.proofs.shelf.Tests.{lt-ltb, ltb-true, ltb-false, eq-eqb, ne-eqb, eqb-true, eqb-false, cases-eq}
 use Rattle.std.specs.declared.option.Option.{Option}
 use Rattle.std.specs.declared.option.Option.the-variants.{Some, None}
-use Rattle.values.specs.Reports.{Reported, first, later, Only, values, votes, Most, leader, majority}
+use Rattle.values.specs.Reports.{Reported, first, later, Only, values, votes, Most, Exactly, leader, majority}
 use Rattle.values.specs.Laws.{None-without-value, Unanimous-value-given}
 use Rattle.values.proofs.Members.{none-given, here-or-later}
 
@@ -92,5 +92,5 @@ pub only-majority : Unanimous-value-given majority
 only-majority rs v o = most-majority rs v (omega (arith, only-votes v rs (o .1), some-values v rs (o .0)))
 
 -- what the rule gives, in its own words
-pub majority-exact : (rs : List (Option ℕ)) (r : Option ℕ) → r ≡ majority rs → (v : ℕ) → (r ≡ Some v → Most v rs) × (Most v rs → r ≡ Some v)
+pub majority-exact : (rs : List (Option ℕ)) (r : Option ℕ) → r ≡ majority rs → Exactly r (λ v. Most v rs)
 majority-exact rs r is v = (λ e. leader-most rs rs v (sym is ∙ e), λ m. is ∙ most-majority rs v m)

@@ -8,7 +8,7 @@ use lib.Dec.{eqb}
 use Rattle.std.proofs.shelf.Tests.{eq-eqb, eqb-true, false≢true}
 use Rattle.std.specs.declared.option.Option.{Option}
 use Rattle.std.specs.declared.option.Option.the-variants.{Some, None}
-use Rattle.values.specs.Reports.{Reported, first, later, Only, firstValue, agree, soleOf, sole}
+use Rattle.values.specs.Reports.{Reported, first, later, Only, Exactly, firstValue, agree, soleOf, sole}
 use Rattle.values.specs.Laws.{None-without-value, Unanimous-value-given}
 use Rattle.values.proofs.Members.{none-given, here-or-later}
 
@@ -67,5 +67,5 @@ sole-only rs v e = at (firstValue rs) refl e
             subst (λ y. Only y rs) same (first-reported rs x f, all-agree x rs a)
 
 -- what the rule gives, in its own words
-pub sole-exact : (rs : List (Option ℕ)) (r : Option ℕ) → r ≡ sole rs → (v : ℕ) → (r ≡ Some v → Only v rs) × (Only v rs → r ≡ Some v)
+pub sole-exact : (rs : List (Option ℕ)) (r : Option ℕ) → r ≡ sole rs → Exactly r (λ v. Only v rs)
 sole-exact rs r is v = (λ e. sole-only rs v (sym is ∙ e), λ o. is ∙ only-sole rs v o)

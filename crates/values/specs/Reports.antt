@@ -12,6 +12,10 @@ pub data Reported (v : ℕ) : List (Option ℕ) → Type 0 where
   first : {rs : List (Option ℕ)} → Reported v (Some v ∷ rs)
   later : {r : Option ℕ} {rs : List (Option ℕ)} → Reported v rs → Reported v (r ∷ rs)
 
+-- what is given is v exactly if P holds of v
+abbrev pub Exactly : Option ℕ → (ℕ → Type 0) → Type 0
+Exactly r P = (v : ℕ) → (r ≡ Some v → P v) × (P v → r ≡ Some v)
+
 -- Sole.
 
 -- v stands in the list, and no other value does

@@ -2,7 +2,7 @@ ghost use lib.ListN.{length};
 ghost use mathlib.Core.Path.{_≡_};
 ghost use Prim.Native.Nat.{ℕ, _≤_};
 ghost use Rattle.std.specs.declared.option.Option.the-variants.{Some};
-ghost use Rattle.values.specs.Reports.{values, votes, leading, majority, Most};
+ghost use Rattle.values.specs.Reports.{values, votes, leading, majority, Most, Exactly};
 use crate::choice::ChoiceRule;
 
 /// Gives the value that makes up more than half of the reports that are values, else none.
@@ -49,7 +49,7 @@ fn leads(reports: &[Option<u64>], value: u64, total: usize) -> bool
 /// The value that makes up more than half of the reports that are values.
 fn majority_value(reports: &[Option<u64>]) -> Option<u64>
     ensures value { λ r. ⌜ r ≡ majority (now (reports .entry)) ⌝ }
-    ensures exact { λ r. ⌜ ((v : ℕ) → (r ≡ Some v → Most v (now (reports .entry))) × (Most v (now (reports .entry)) → r ≡ Some v)) ⌝ }
+    ensures exact { λ r. ⌜ Exactly r (λ v. Most v (now (reports .entry))) ⌝ }
 {
     let total = count_values(reports);
     for report in reports {
@@ -67,7 +67,7 @@ pub impl ChoiceRule for Majority as MajorityChoiceRule {
 
     fn choose(&self, reports: &[Option<u64>]) -> Option<u64>
         ensures value { λ r. ⌜ r ≡ majority (now (reports .entry)) ⌝ }
-        ensures exact { λ r. ⌜ ((v : ℕ) → (r ≡ Some v → Most v (now (reports .entry))) × (Most v (now (reports .entry)) → r ≡ Some v)) ⌝ }
+        ensures exact { λ r. ⌜ Exactly r (λ v. Most v (now (reports .entry))) ⌝ }
     {
         majority_value(reports)
     }

@@ -1,7 +1,7 @@
 ghost use mathlib.Core.Path.{_≡_};
 ghost use Prim.Native.Nat.{ℕ};
 ghost use Rattle.std.specs.declared.option.Option.the-variants.{Some};
-ghost use Rattle.values.specs.Reports.{firstValue, agree, soleOf, sole, Only};
+ghost use Rattle.values.specs.Reports.{firstValue, agree, soleOf, sole, Only, Exactly};
 use crate::choice::ChoiceRule;
 
 /// Gives the value if the list has exactly one distinct value, else none.
@@ -47,7 +47,7 @@ fn unless_others(first: Option<u64>, reports: &[Option<u64>]) -> Option<u64>
 /// The value if there is exactly one distinct value.
 fn sole_value(reports: &[Option<u64>]) -> Option<u64>
     ensures value { λ r. ⌜ r ≡ sole (now (reports .entry)) ⌝ }
-    ensures exact { λ r. ⌜ ((v : ℕ) → (r ≡ Some v → Only v (now (reports .entry))) × (Only v (now (reports .entry)) → r ≡ Some v)) ⌝ }
+    ensures exact { λ r. ⌜ Exactly r (λ v. Only v (now (reports .entry))) ⌝ }
 {
     unless_others(first_value(reports), reports)
 }
@@ -57,7 +57,7 @@ pub impl ChoiceRule for Sole as SoleChoiceRule {
 
     fn choose(&self, reports: &[Option<u64>]) -> Option<u64>
         ensures value { λ r. ⌜ r ≡ sole (now (reports .entry)) ⌝ }
-        ensures exact { λ r. ⌜ ((v : ℕ) → (r ≡ Some v → Only v (now (reports .entry))) × (Only v (now (reports .entry)) → r ≡ Some v)) ⌝ }
+        ensures exact { λ r. ⌜ Exactly r (λ v. Only v (now (reports .entry))) ⌝ }
     {
         sole_value(reports)
     }
