@@ -1,5 +1,5 @@
-//! One level of a sounding on the bench, told step by step: a reading is typed in, sealed by its sender, checked by a
-//! receiver, damaged on the way, and decided from several stations' reports.
+//! One level of a sounding on the bench, told step by step: a reading is sealed by its sender, checked by a receiver,
+//! damaged on the way, and decided from several stations' reports.
 mod decision;
 mod message;
 mod sealing;

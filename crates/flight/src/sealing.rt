@@ -4,7 +4,8 @@ use crate::show::HexDisplay;
 use seals::Seal;
 use std::io;
 
-/// The sender seals the header, a receiver checks it as sent, as sent by another station, and with each byte changed.
+/// The sender seals the header; a receiver checks it as sent, as another station's, with one byte changed, and with each
+/// bit changed in turn.
 pub(crate) fn tell<S: Seal>(rt: &LibcRuntime, seal: &S, header: &Header) -> io::Result<()> {
     let message = header.sealed_by_sender(0);
     let tag = seal.tag(0, &message);
