@@ -1,30 +1,26 @@
 -- The order of paths is what the comparison of slices answers.
-use Rattle.std.proofs.Common.{◌≡◌, ℕ, ◌<◌, true, false, cond, ltb, List, [], ◌∷◌, Ordering, Less, Equal, Greater, sym, refl, ap, ◌∙◌, arith}
-use Rattle.std.specs.Cmp.Lexicographic.{Lex}
-use Rattle.std.specs.Ordering.{MatchOrdering}
-use Rattle.std.proofs.lemmas.Cmp.{by_ranked}
-use Rattle.std.proofs.lemmas.Bool.{cond-true, cond-false, lt-ltb, le-ltb}
+use Rattle.std.proofs.Common.{◌≡◌, ℕ, true, false, Bool, cond, ltb, eqb, List, [], ◌∷◌, Ordering, Less, Equal, Greater, sym, refl, ap, ◌∙◌, arith}
+use Rattle.std.specs.Cmp.Lexicographic.{slice_cmp}
+use Rattle.std.specs.Ordering.{nat_cmp, ordering_then}
+use Rattle.std.proofs.lemmas.Bool.{ltb-true, ltb-false, eqb-true, eq-eqb, false≢true}
 use Rattle.paths.specs.Stations.{compared}
 
--- how two station numbers compare
-abbrev pub ByNumber : ℕ → ℕ → Ordering → Type 0
-ByNumber a b o = MatchOrdering o (a < b) (a ≡ b) (b < a)
-
 -- the first pair decides, or the rest does
-first-pair : (x y : ℕ) (xs ys : List ℕ) (r o : Ordering) → ByNumber x y o → MatchOrdering o (r ≡ Less) (r ≡ compared xs ys) (r ≡ Greater) → r ≡ compared (x ∷ xs) (y ∷ ys)
-first-pair x y xs ys r Less l e = e ∙ sym (cond-true _ _ _ (lt-ltb x y l))
-first-pair x y xs ys r Equal l e =
-    e ∙ sym (cond-false _ _ _ (le-ltb x y (omega arith)) ∙ cond-false _ _ _ (le-ltb y x (omega arith)))
-first-pair x y xs ys r Greater l e =
-    e ∙ sym (cond-false _ _ _ (le-ltb x y (omega arith)) ∙ cond-true _ _ _ (lt-ltb y x l))
+first-pair : (x y : ℕ) (o : Ordering) → ordering_then (nat_cmp x y) o ≡ cond (ltb x y) Less (cond (ltb y x) Greater o)
+first-pair x y o = split (ltb x y) refl (eqb x y) refl (ltb y x) refl
+  where
+    split : (a : Bool) → ltb x y ≡ a → (b : Bool) → eqb x y ≡ b → (c : Bool) → ltb y x ≡ c →
+        ordering_then (cond a Less (cond b Equal Greater)) o ≡ cond a Less (cond c Greater o)
+    split true e b f c g = refl
+    split false e true f true g = absurd (omega (arith, eqb-true x y f, ltb-true y x g))
+    split false e true f false g = refl
+    split false e false f true g = refl
+    split false e false f false g =
+        let same : x ≡ y = omega (arith, ltb-false x y e, ltb-false y x g) in
+        absurd (false≢true (sym f ∙ eq-eqb x y same))
 
-rest-decides : {P Q : Type 0} (r o : Ordering) → (P → Q) → MatchOrdering o (r ≡ Less) P (r ≡ Greater) → MatchOrdering o (r ≡ Less) Q (r ≡ Greater)
-rest-decides r Less f e = e
-rest-decides r Equal f e = f e
-rest-decides r Greater f e = e
-
-pub order_is : (xs ys : List ℕ) (r : Ordering) → Lex ByNumber xs ys r → r ≡ compared xs ys
-order_is [] [] r e = e
-order_is [] (y ∷ ys) r e = e
-order_is (x ∷ xs) [] r e = e
-order_is (x ∷ xs) (y ∷ ys) r e = first-pair x y xs ys r e.0 e.1 (rest-decides r e.0 (order_is xs ys r) e.2)
+pub compared-is : (xs ys : List ℕ) → slice_cmp nat_cmp xs ys ≡ compared xs ys
+compared-is [] [] = refl
+compared-is [] (y ∷ ys) = refl
+compared-is (x ∷ xs) [] = refl
+compared-is (x ∷ xs) (y ∷ ys) = ap (ordering_then (nat_cmp x y)) (compared-is xs ys) ∙ first-pair x y (compared xs ys)

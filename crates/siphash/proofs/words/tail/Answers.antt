@@ -12,19 +12,19 @@ loop-i-init c =
     let end : n ≤ n = omega arith in
     (sym (at_drop_all little m n end), one-le-pow (n - n) 256 (lit< tt), omega arith)
 
-pub overflow-mul-word : goal.overflow-mul-word
-overflow-mul-word c =
+pub overflow_mul-word : goal.overflow_mul-word
+overflow_mul-word c =
     let n = length c.args.message.now - c.loop-i.i in
     let few : n ≤ 6 = omega arith in
     let small : c.loop-i.word < 256 ^ 6 = within c.loop-i.word n 6 c.loop-i.invariant.1 few in
     omega arith
 
-pub overflow-add-word : goal.overflow-add-word
-overflow-add-word c =
+pub overflow_add-word : goal.overflow_add-word
+overflow_add-word c =
     let n = length c.args.message.now - c.loop-i.i in
     let few : n ≤ 6 = omega arith in
     let small : c.loop-i.word < 256 ^ 6 = within c.loop-i.word n 6 c.loop-i.invariant.1 few in
-    omega (arith, (c.type-inv.message (c.loop-i.i - 1)).fits)
+    omega (arith, (c.type_inv.message (c.loop-i.i - 1)).fits)
 
 pub loop-i-preserved : goal.loop-i-preserved
 loop-i-preserved c =
@@ -32,7 +32,7 @@ loop-i-preserved c =
     let i = c.loop-i.i in
     let w = c.loop-i.word in
     let more = byte_more m i (omega arith) c.loop-i.auto.i in
-    let byte : c.from.result < 256 = omega (arith, (c.type-inv.message (i - 1)).fits) in
+    let byte : c.from.result < 256 = omega (arith, (c.type_inv.message (i - 1)).fits) in
     (omega (arith, more, c.loop-i.invariant.0), grows w c.from.result (length m - i) (length m - (i - 1)) c.loop-i.invariant.1 byte (omega arith), omega arith)
 
 pub returns : goal.returns

@@ -4,7 +4,7 @@ use Rattle.std.proofs.lemmas.Bool.{eq-eqb, ne_eqb}
 use Rattle.values.specs.Reports.{votes}
 use Rattle.values.proofs.Steps.{turn}
 use Rattle.values.proofs.majority.count_of.Goals as goal
-use Rattle.values.proofs.majority.count_of.Goals.{in-Some+then-v-value, in-Some+else-v-value, in-default}
+use Rattle.values.proofs.majority.count_of.Goals.{in-Some+then-v-value, in-Some+else-v-value, in_default}
 
 pub loop-report-preserved : goal.loop-report-preserved
 loop-report-preserved c =
@@ -19,8 +19,8 @@ loop-report-preserved c =
           let step = turn (votes c.args.value) c.args.reports.now c.loop-report.report-index None (Some w.in-Some.v) c.loop-report-test.true w.in-Some.is in
           let step1 = rw differ at step in
           (omega (arith, step1, c.loop-report.invariant.0, w.n-is), omega (arith, c.loop-report.invariant.1, w.n-is))
-      | in-default w ↦
-          let step = turn (votes c.args.value) c.args.reports.now c.loop-report.report-index None None c.loop-report-test.true w.in-default.is in
+      | in_default w ↦
+          let step = turn (votes c.args.value) c.args.reports.now c.loop-report.report-index None None c.loop-report-test.true w.in_default.is in
           (omega (arith, step, c.loop-report.invariant.0, w.n-is), omega (arith, c.loop-report.invariant.1, w.n-is))
     ]
 

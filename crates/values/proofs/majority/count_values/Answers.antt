@@ -3,7 +3,7 @@ use Rattle.std.proofs.lemmas.List.{at_drop_all}
 use Rattle.values.specs.Reports.{values}
 use Rattle.values.proofs.Steps.{turn}
 use Rattle.values.proofs.majority.count_values.Goals as goal
-use Rattle.values.proofs.majority.count_values.Goals.{in-Some, in-default}
+use Rattle.values.proofs.majority.count_values.Goals.{in-Some, in_default}
 
 pub loop-report-preserved : goal.loop-report-preserved
 loop-report-preserved c =
@@ -11,8 +11,8 @@ loop-report-preserved c =
       | in-Some w ↦
           let step = turn values c.args.reports.now c.loop-report.report-index None (Some w.in-Some.field-0) c.loop-report-test.true w.in-Some.is in
           (omega (arith, step, c.loop-report.invariant.0, w.n-is), omega (arith, c.loop-report.invariant.1, w.n-is))
-      | in-default w ↦
-          let step = turn values c.args.reports.now c.loop-report.report-index None None c.loop-report-test.true w.in-default.is in
+      | in_default w ↦
+          let step = turn values c.args.reports.now c.loop-report.report-index None None c.loop-report-test.true w.in_default.is in
           (omega (arith, step, c.loop-report.invariant.0, w.n-is), omega (arith, c.loop-report.invariant.1, w.n-is))
     ]
 

@@ -4,7 +4,7 @@ use Rattle.values.specs.Reports.{leader, leading, majority}
 use Rattle.values.specs.Majorities.{majority-exact}
 use Rattle.values.proofs.Steps.{turn}
 use Rattle.values.proofs.majority.majority_value.Goals as goal
-use Rattle.values.proofs.majority.majority_value.Goals.{in-Some+else-leads, in-default}
+use Rattle.values.proofs.majority.majority_value.Goals.{in-Some+else-leads, in_default}
 
 pub returns-then-leads : goal.returns-then-leads
 returns-then-leads c =
@@ -21,8 +21,8 @@ loop-report-preserved c =
       | in-Some+else-leads w ↦
           let step = turn (leader rs) rs c.loop-report.report-index None (Some w.in-Some.v) c.loop-report-test.true w.in-Some.is in
           sym (rw (sym w.leads.ensures ∙ w.if-leads.false) at step) ∙ c.loop-report.invariant
-      | in-default w ↦
-          sym (turn (leader rs) rs c.loop-report.report-index None None c.loop-report-test.true w.in-default.is) ∙ c.loop-report.invariant
+      | in_default w ↦
+          sym (turn (leader rs) rs c.loop-report.report-index None None c.loop-report-test.true w.in_default.is) ∙ c.loop-report.invariant
     ]
 
 pub returns : goal.returns

@@ -4,7 +4,7 @@ use Rattle.std.proofs.lemmas.Bool.{eq-eqb, ne_eqb}
 use Rattle.values.specs.Reports.{agree}
 use Rattle.values.proofs.Steps.{turn}
 use Rattle.values.proofs.sole.all_are.Goals as goal
-use Rattle.values.proofs.sole.all_are.Goals.{in-Some+else-v-value, in-default}
+use Rattle.values.proofs.sole.all_are.Goals.{in-Some+else-v-value, in_default}
 
 pub returns-then-v-value : goal.returns-then-v-value
 returns-then-v-value c =
@@ -19,8 +19,8 @@ loop-report-preserved c =
           let same = eq-eqb w.in-Some.v c.args.value w.if-v-value.false in
           let step = turn (agree c.args.value) c.args.reports.now c.loop-report.report-index None (Some w.in-Some.v) c.loop-report-test.true w.in-Some.is in
           sym (rw same at step) ∙ c.loop-report.invariant
-      | in-default w ↦
-          sym (turn (agree c.args.value) c.args.reports.now c.loop-report.report-index None None c.loop-report-test.true w.in-default.is) ∙ c.loop-report.invariant
+      | in_default w ↦
+          sym (turn (agree c.args.value) c.args.reports.now c.loop-report.report-index None None c.loop-report-test.true w.in_default.is) ∙ c.loop-report.invariant
     ]
 
 pub returns : goal.returns

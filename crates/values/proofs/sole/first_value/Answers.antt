@@ -10,7 +10,7 @@ returns-in-Some c =
 
 pub loop-report-preserved : goal.loop-report-preserved
 loop-report-preserved c =
-    sym (turn first_value c.args.reports.now c.loop-report.report-index None None c.loop-report-test.true c.in-default.is) ∙ c.loop-report.invariant
+    sym (turn first_value c.args.reports.now c.loop-report.report-index None None c.loop-report-test.true c.in_default.is) ∙ c.loop-report.invariant
 
 pub returns : goal.returns
 returns c =

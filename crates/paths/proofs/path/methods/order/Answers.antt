@@ -1,5 +1,6 @@
-use Rattle.paths.proofs.Orders.{order_is}
+use Rattle.std.proofs.Common.{◌∙◌}
+use Rattle.paths.proofs.Orders.{compared-is}
 use Rattle.paths.proofs.path.methods.order.Goals as goal
 
 pub returns : goal.returns
-returns c = order_is c.args.a.now c.args.b.now c.cmp.result c.cmp.ensures
+returns c = c.cmp.ensures ∙ compared-is c.args.a.now c.args.b.now

@@ -3,7 +3,7 @@ use Rattle.siphash.specs.SipHash.{absorbed, compress}
 use Rattle.siphash.proofs.state.State.absorb.Goals as goal
 
 pub loop-i-preserved : goal.loop-i-preserved
-loop-i-preserved c = rw add-one (c.compress-state.ensures ∙ ap₂ compress c.loop-i.invariant c.word-at.ensures)
+loop-i-preserved c = rw add-one (c.compress-state.ensures ∙ ap₂ compress c.loop-i.invariant c.word_at.ensures)
 
 pub returns : goal.returns
 returns c =

@@ -4,4 +4,4 @@ use Rattle.siphash.proofs.state.State.round.Goals as goal
 
 pub returns : goal.returns
 unfolding round
-returns c = c.second-half.ensures ∙ ap half2 c.first-half.ensures
+returns c = c.second_half.ensures ∙ ap half2 c.first_half.ensures
