@@ -6,9 +6,9 @@ pub returns : goal.returns
 returns c =
     let part = c.args.part.now in
     let zeros : List ℕ = 0 ∷ 0 ∷ 0 ∷ 0 ∷ [] in
-    let is = c.copy-from-slice.ensures.after in
+    let is = c.copy_from_slice.ensures.after in
     let all : length part - 0 ≡ length part = omega arith in
     record {
       is = ap (λ xs. xs ++ drop (length part - 0) zeros) is ∙ ap (λ n. part ++ drop n zeros) all;
-      front = take_at c.copy-from-slice.new.self _ (length part) (ap length is) ∙ is;
+      front = take_at c.copy_from_slice.new.self _ (length part) (ap length is) ∙ is;
     }

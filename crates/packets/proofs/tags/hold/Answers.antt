@@ -24,7 +24,7 @@ loop-i-preserved g c =
     let row = c.args.row.now in
     let tags = c.args.tags.now in
     hold-turn tag c.args.h (row_stations row) c.stations-path.result.now c.stations-path.ensures.is row.len tags c.stations-path.ensures.count
-    c.loop-i.i c.tag-holds.result c.loop-i-test.true c.tag-holds.ensures c.if-not-tag-holds.false c.loop-i.invariant
+    c.loop-i.i c.tag_holds.result c.loop-i-test.true c.tag_holds.ensures c.if-not-tag_holds.false c.loop-i.invariant
 
 pub returns : goal.returns
 returns g c =

@@ -5,5 +5,5 @@ use Rattle.packets.proofs.tags.sealed_bytes.Goals as goal
 
 pub returns : goal.returns
 returns c =
-    sealed-is (zeros 18) c.put-header.new.out c.put-bytes.new.out c.args.h c.args.path.now c.args.n (c.args.n - 0)
-    c.put-header.ensures c.put-bytes.ensures (omega arith) c.requires.1 c.requires.0 (omega arith)
+    sealed-is (zeros 18) c.put_header.new.out c.put_bytes.new.out c.args.h c.args.path.now c.args.n (c.args.n - 0)
+    c.put_header.ensures c.put_bytes.ensures (omega arith) c.requires.1 c.requires.0 (omega arith)
