@@ -12,7 +12,7 @@ unfolding RowRead
 returns g c =
     let b = c.args.bytes.now in
     let w = g.S.Seal.wide in
-    let bytes : Bytes b = All-from_get_or (λ x. x < 256) b 0 (λ i l. (c.ok.bytes i).fits) in
-    let count = ap (λ r. r.len) c.row-in.ensures.is in
-    let is = packet-is w b c.header-in.result c.row-in.result c.tags-in.result c.header-in.ensures count c.row-in.ensures.path c.tags-in.ensures in
-    record { is = is; row = c.row-in.ensures.is; len = omega (arith, c.requires, count); form = ap (encode w) is ∙ form_in w b bytes c.requires.1; alone = λ all. subst (OneForm w b) (sym is) (one_form w b bytes all) }
+    let bytes : Bytes b = All-from_get_or (λ x. x < 256) b 0 (λ i l. (c.type_inv.bytes i).fits) in
+    let count = ap (λ r. r.len) c.row_in.ensures.is in
+    let is = packet-is w b c.header_in.result c.row_in.result c.tags_in.result c.header_in.ensures count c.row_in.ensures.path c.tags_in.ensures in
+    record { is = is; row = c.row_in.ensures.is; len = omega (arith, c.requires, count); form = ap (encode w) is ∙ form_in w b bytes c.requires.1; alone = λ all. subst (OneForm w b) (sym is) (one_form w b bytes all) }

@@ -5,8 +5,8 @@ use Rattle.packets.proofs.OneForm.{made_by}
 use Rattle.packets.proofs.Steps.{hold-turn, hold-fails, hold-all, as_many}
 use Rattle.packets.proofs.tags.hold.Goals as goal
 
-pub returns-then-not-tag-holds : goal.returns-then-not-tag-holds
-returns-then-not-tag-holds g c =
+pub returns-then-not-tag_holds : goal.returns-then-not-tag_holds
+returns-then-not-tag_holds g c =
     let tag = g.S.Seal.meaning c.args.seal.now in
     let row = c.args.row.now in
     let tags = c.args.tags.now in
@@ -14,7 +14,7 @@ returns-then-not-tag-holds g c =
     record {
       is =
           hold-fails tag c.args.h (row_stations row) c.stations-path.result.now c.stations-path.ensures.is row.len tags c.stations-path.ensures.count
-          c.loop-i.i c.tag-holds.result c.loop-i-test.true c.tag-holds.ensures c.if-not-tag-holds.true;
+          c.loop-i.i c.tag_holds.result c.loop-i-test.true c.tag_holds.ensures c.if-not-tag_holds.true;
       made = made_by tag p (as_many row.len tags c.requires (row_stations row) c.stations-path.result.now c.stations-path.ensures.is c.stations-path.ensures.count);
     }
 

@@ -10,8 +10,8 @@ loop-i-init g c = sym (over_none c.put_bytes.new.out (c.args.at + 14 + length c.
 pub loop-i-preserved : goal.loop-i-preserved
 loop-i-preserved g c =
     put-turn c.tag_width-w.result g.S.Seal.wide c.tag_width-w.ensures.named (g.S.Seal.meaning c.args.seal.now) c.args.header c.args.path.now
-    c.args.at c.loop-i.i c.put_bytes.new.out c.loop-i.out c.put_number.new.out c.tag-for-tag.result
-    (omega arith) c.loop-i-test.true c.tag-for-tag.ensures c.loop-i.invariant c.put_number.ensures
+    c.args.at c.loop-i.i c.put_bytes.new.out c.loop-i.out c.put_number.new.out c.tag_for-tag.result
+    (omega arith) c.loop-i-test.true c.tag_for-tag.ensures c.loop-i.invariant c.put_number.ensures
 
 pub returns : goal.returns
 returns g c =
