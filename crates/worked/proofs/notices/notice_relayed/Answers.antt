@@ -12,13 +12,13 @@ returns-in-Some c =
     let with : stations_in c.with.result ≡ Some (a ∷ b ∷ []) = c.with.ensures ∙ ap (λ t. extended t b) c.start.ensures ∙ two-stations a b c.requires in
     let is : Some (stations c.in-Some.path) ≡ Some (a ∷ b ∷ []) = ap stations_in (sym c.in-Some.is) ∙ with in
     let path : stations c.in-Some.path ≡ a ∷ b ∷ [] = cc in
-    notice-written c.new.result.words.now (a ∷ b ∷ []) (stations c.in-Some.path) (zeros 20) c.write.new.out c.write.result (c.new.ensures ∙ c.counting-words-words.ensures) path refl c.write.ensures.placed
+    notice-written c.new.result.words.now (a ∷ b ∷ []) (stations c.in-Some.path) (zeros 20) c.write.new.out c.write.result (c.new.ensures ∙ c.counting_words-words.ensures) path refl c.write.ensures.placed
 
-pub returns-in-default : goal.returns-in-default
-returns-in-default c =
+pub returns-in_default : goal.returns-in_default
+returns-in_default c =
     let a = c.args.sender in
     let b = c.args.station in
     let with : stations_in c.with.result ≡ Some (a ∷ b ∷ []) = c.with.ensures ∙ ap (λ t. extended t b) c.start.ensures ∙ two-stations a b c.requires in
-    let none : None ≡ Some (a ∷ b ∷ []) = ap stations_in (sym c.in-default.is) ∙ with in
+    let none : None ≡ Some (a ∷ b ∷ []) = ap stations_in (sym c.in_default.is) ∙ with in
     let no : ◌≡◌ {A = ℕ} 0 1 = cc in
     absurd (omega arith)

@@ -7,6 +7,6 @@ use Rattle.worked.proofs.notices.notice_sent.Goals as goal
 pub returns : goal.returns
 returns c =
     record {
-      is = notice-written c.new.result.words.now (c.args.sender ∷ []) (stations c.start.result) (zeros 17) c.write.new.out c.write.result (c.new.ensures ∙ c.counting-words-words.ensures) c.start.ensures refl c.write.ensures.placed;
+      is = notice-written c.new.result.words.now (c.args.sender ∷ []) (stations c.start.result) (zeros 17) c.write.new.out c.write.result (c.new.ensures ∙ c.counting_words-words.ensures) c.start.ensures refl c.write.ensures.placed;
       rules = worked;
     }
