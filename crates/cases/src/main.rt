@@ -1,5 +1,7 @@
 //! The worked cases of the rules and the published vectors, each with what was expected and what came.
 //! Run it in the folder that has `siphash-2-4.txt`.
+#![tactic(auto)]
+
 mod choice_cases;
 mod counts;
 mod kind_cases;

@@ -1,4 +1,6 @@
 //! Paths, damaged packets and the worked packets, each with what was expected and what came.
+#![tactic(auto)]
+
 mod counts;
 mod packet_cases;
 mod path_cases;

@@ -1,5 +1,7 @@
 //! One level of a sounding on the bench, told step by step: a reading is sealed by its sender, checked by a receiver,
 //! damaged on the way, and decided from several stations' reports.
+#![tactic(auto)]
+
 mod decision;
 mod message;
 mod sealing;

@@ -1,11 +1,8 @@
 -- What was read has the bytes that it was read from as its form.
-use Rattle.std.proofs.Common.{◌≡◌, ℕ, zero, suc, ◌+◌, ◌-◌, ◌*◌, ◌<◌, ◌≤◌, Bool, true, false, cond, not, ◌&&◌, eqb, ltb, leb, List, [], ◌∷◌, ◌++◌, length, get_or, take, drop, Ok, Err, Result, sym, refl, ap, ◌∙◌, subst, zero-mul, add-one, arith, take_all, take-add}
+use Rattle.std.proofs.Common.{◌≡◌, ℕ, zero, suc, ◌+◌, ◌*◌, ◌<◌, ◌≤◌, Bool, true, false, cond, not, ◌&&◌, eqb, ltb, leb, List, [], ◌∷◌, ◌++◌, length, get_or, take, drop, Ok, Err, sym, refl, ap, ◌∙◌, zero-mul, add-one, arith, take_all, take-add}
 use Rattle.std.specs.Int.Digits.{number_from_digits}
-use Rattle.std.specs.List.{AllByRecursion as All}
 use Rattle.std.proofs.lemmas.List.{length-take-le, length-drop, drop-drop, take-take, drop-take, take_more, get_or-take}
 use Rattle.std.proofs.lemmas.Bool.{and_parts, eqb-true}
-use Rattle.packets.specs.declared.header.Header.{Header}
-use Rattle.packets.specs.declared.packet.Malformed.{Malformed}
 use Rattle.packets.specs.declared.packet.Malformed.TheVariants.{TooShort, PathLength, WrongLength}
 use Rattle.packets.specs.Bytes.{bytes_of, number_at}
 use Rattle.packets.specs.Headers.{header_of}
@@ -14,7 +11,7 @@ use Rattle.packets.specs.Tags.{tag_for, tags_for, sealed_parts, hold_to, tags_ho
 use Rattle.packets.specs.Calls.{decode, alone}
 use Rattle.packets.specs.Laws.{Bytes, OneForm}
 use Rattle.packets.proofs.Numbers.{bytes_of-at}
-use Rattle.packets.proofs.Forms.{parts_more, parts_within, packet_length-is, tag_bytes-push, tags_in-length, tags_for-more, tags_for-length, hold_to-more}
+use Rattle.packets.proofs.Forms.{parts_more, parts_within, packet_length-is, tag_bytes-push, tags_in-length}
 
 first_two : (b : List ℕ) → 2 ≤ length b → take 2 b ≡ get_or b 0 0 ∷ get_or b 1 0 ∷ []
 first_two [] l = absurd (omega arith)

@@ -1,8 +1,8 @@
 -- What was written is what is read.
-use Rattle.std.proofs.Common.{◌≡◌, ℕ, zero, suc, ◌+◌, ◌-◌, ◌*◌, ◌^◌, ◌<◌, ◌≤◌, true, false, cond, not, ◌&&◌, eqb, ltb, leb, List, [], ◌∷◌, ◌++◌, length, get_or, take, drop, Ok, sym, refl, ap, ◌∙◌, ⊎_elim, zero-mul, add-one, arith}
+use Rattle.std.proofs.Common.{◌≡◌, ℕ, zero, suc, ◌+◌, ◌*◌, ◌^◌, ◌<◌, ◌≤◌, true, List, [], ◌∷◌, ◌++◌, length, get_or, take, drop, Ok, sym, refl, ap, ◌∙◌, ⊎_elim, zero-mul, add-one, arith}
 use Rattle.std.specs.Int.Digits.{number_from_digits}
 use Rattle.std.specs.List.{AllByRecursion as All}
-use Rattle.std.proofs.lemmas.List.{append_assoc, append-nil, length-append, length-take-le, take_at, drop_at, drop-drop, take_all, take-append-le, take_more, get_or_append_left, get_or_at, length_push}
+use Rattle.std.proofs.lemmas.List.{append_assoc, append-nil, length-append, length-take-le, take_at, drop_at, drop-drop, take_all, take-append-le, take_more, get_or_append_left, get_or_at}
 use Rattle.std.proofs.ByRecursion.{All-get_or, All-push}
 use Rattle.std.proofs.lemmas.Bool.{cases_eq, and_from, cond-true, cond-false, eq-eqb, le-leb, le-ltb, not_from_true}
 use Rattle.packets.specs.declared.header.Header.{Header}
@@ -14,7 +14,7 @@ use Rattle.packets.specs.Calls.{decode_front, decode, alone}
 use Rattle.packets.specs.Laws.{ReadsBack, Stands}
 use Rattle.packets.proofs.Writes.{bytes_of-length}
 use Rattle.packets.proofs.Numbers.{number-bytes_of}
-use Rattle.packets.proofs.Forms.{parts_more, packet_length-is, head_bytes-length, tag_bytes-push, tag_bytes-length, encode-length, tags_for-more, tags_for-length, tags_in-more, hold_to-more}
+use Rattle.packets.proofs.Forms.{parts_more, packet_length-is, head_bytes-length, encode-length, tags_for-more, tags_for-length}
 
 -- the numbers of a header fit their bytes
 pub record Fitting (h : Header) : Type 0 where

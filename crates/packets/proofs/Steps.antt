@@ -1,5 +1,5 @@
 -- What one turn and the end of each loop come to, and what a call answers.
-use Rattle.std.proofs.Common.{◌≡◌, ℕ, ◌+◌, ◌-◌, ◌*◌, ◌<◌, ◌≤◌, min, Bool, true, false, eqb, List, [], ◌∷◌, ◌++◌, length, get_or, take, drop, set, sym, ap, ◌∙◌, arith}
+use Rattle.std.proofs.Common.{◌≡◌, ℕ, ◌+◌, ◌-◌, ◌*◌, ◌<◌, ◌≤◌, min, Bool, true, false, eqb, List, [], ◌∷◌, ◌++◌, length, get_or, take, set, sym, ap, ◌∙◌, arith}
 use native.Mathlib.Nat.{min-le_left}
 use Rattle.paths.specs.Paths.{row_stations}
 use Rattle.paths.specs.declared.row.Row.{Row}
@@ -7,7 +7,7 @@ use Rattle.std.proofs.lemmas.List.{append_assoc, length-append, length-set, leng
 use Rattle.std.proofs.lemmas.Bool.{and_from, and_right}
 use Rattle.packets.specs.declared.header.Header.{Header}
 use Rattle.packets.specs.Bytes.{bytes_of, over}
-use Rattle.packets.specs.Form.{Parts, parts_of, head_bytes, tag_bytes, encode, packet_length, count_in, header_in, path_in, tag_in, tags_in, parts_in}
+use Rattle.packets.specs.Form.{parts_of, head_bytes, tag_bytes, encode, packet_length, count_in, header_in, path_in, tag_in, tags_in, parts_in}
 use Rattle.packets.specs.Calls.{parts}
 use Rattle.packets.specs.Tags.{tag_for, tags_for, sealed_parts, hold_to, tags_hold}
 use Rattle.packets.proofs.Writes.{over-more}

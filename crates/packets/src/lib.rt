@@ -3,6 +3,8 @@
 //! A packet says what a station heard (`Header`), by which `Path` it came, and has a tag of each station on that path.
 //! `write` seals a packet and puts it at a place of a buffer. `read_front` takes one packet from the front of some bytes and
 //! says how many it used; `read` wants that these are all. `Packet::tags_hold` checks the tags.
+#![tactic(auto)]
+
 mod bytes;
 pub mod header;
 pub mod packet;

@@ -2,6 +2,8 @@
 //!
 //! `Row` holds station numbers as they were read, of which nothing is known. `Path::new` checks a row once and makes a
 //! `Path` of it, whose type keeps that it names one to four stations, none of them twice, and which is the first.
+#![tactic(auto)]
+
 pub mod path;
 pub mod row;
 

@@ -1,5 +1,7 @@
 //! One level of a sounding on the bench, told step by step: a reading is sent as a packet, relayed from station to station,
 //! and damaged on the way.
+#![tactic(auto)]
+
 mod receive;
 mod relaying;
 mod sent;

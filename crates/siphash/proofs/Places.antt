@@ -1,5 +1,5 @@
 -- Words of a message: how the code reads them.
-use Rattle.std.proofs.Common.{◌≡◌, ℕ, suc, ◌+◌, ◌-◌, ◌*◌, ◌^◌, ◌<◌, ◌≤◌, List, [], ◌∷◌, length, get_or, take, drop, sym, refl, ap, ◌∙◌, subst, pow-suc, add-one, arith, lit<, drop-cons}
+use Rattle.std.proofs.Common.{◌≡◌, ℕ, suc, ◌+◌, ◌-◌, ◌*◌, ◌^◌, ◌<◌, ◌≤◌, List, ◌∷◌, length, get_or, take, drop, pow-suc, add-one, arith, lit<, drop-cons}
 use native.Mathlib.Nat.{pow-le-pow_right}
 use Rattle.siphash.specs.SipHash.{little}
 

@@ -1,5 +1,5 @@
 -- SipHash-2-4: the hash of a message, a number of 64 bits, under a key of 16 bytes.
-use Rattle.std.specs.Prelude.{◌≡◌, ℕ, zero, suc, ◌+◌, ◌*◌, ◌/◌, ◌%◌, ◌^◌, ◌<◌, List, [], ◌∷◌, length, take, drop, bit_xor}
+use Rattle.std.specs.Prelude.{ℕ, zero, suc, ◌+◌, ◌*◌, ◌/◌, ◌%◌, ◌^◌, ◌<◌, List, [], ◌∷◌, length, take, drop, bit_xor}
 use Rattle.std.proofs.Common.{arith}
 use Rattle.siphash.specs.declared.key.Key.{Key}
 use Rattle.siphash.specs.declared.state.State.{State}

@@ -1,8 +1,8 @@
 -- The majority rule: its laws, and that it gives v exactly if v makes up more than half of the values.
 use Rattle.std.specs.Prelude.{◌≡◌, ℕ, ◌+◌, ◌*◌, ◌<◌, ◌≤◌, Bool, true, false, cond, List, [], ◌∷◌, Some, None, Option, ◌==◌, ◌≢◌, nat_lt, refl}
 use Rattle.std.proofs.Common.{sym, ap, subst, ◌∙◌, ⊎_elim, arith}
-use Rattle.std.proofs.lemmas.Bool.{lt-ltb, ltb-true, ltb-false, eq-eqb, ne_eqb, eqb-true, eqb-false, cases_eq}
-use Rattle.values.specs.Reports.{Reported, first, later, Only, values, votes, Most, Exactly, leader, majority}
+use Rattle.std.proofs.lemmas.Bool.{ltb-true, ltb-false, eq-eqb, eqb-true, cases_eq}
+use Rattle.values.specs.Reports.{Reported, first, later, values, votes, Most, Exactly, leader, majority}
 use Rattle.values.specs.Laws.{NoneWithoutValue, UnanimousValueGiven}
 use Rattle.values.specs.Members.{none-given, here-or-later}
 

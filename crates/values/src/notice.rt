@@ -1,6 +1,6 @@
 ghost use Rattle.std.specs.Prelude.{◌≡◌, Some, MatchOption};
 ghost use Rattle.values.specs.Notices.{notice_bits, notice_of, notice_allowed, IsNotice};
-ghost use Rattle.std.proofs.Common.{rules};
+ghost use Rattle.std.proofs.Common.{lit≤};
 
 use crate::kind::Kind;
 
@@ -60,9 +60,9 @@ impl Kind for Notices {
 
     ghost allowed = { λ _ v. notice_allowed v };
 
-    ghost low = { Prim.search rules };
+    ghost low = { λ _. lit≤ tt };
 
-    ghost high = { Prim.search rules };
+    ghost high = { λ _. lit≤ tt };
 
     fn number(&self) -> u8 {
         Notices::NUMBER

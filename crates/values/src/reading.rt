@@ -1,6 +1,6 @@
 ghost use Rattle.std.specs.Prelude.{◌≡◌, ◌+◌, ◌*◌, ◌/◌, ◌%◌, ◌^◌};
 ghost use Rattle.std.specs.Int.{w16, w32};
-ghost use Rattle.std.proofs.Common.{to_z, of_z, rules};
+ghost use Rattle.std.proofs.Common.{to_z, of_z, lit≤};
 ghost use Rattle.values.specs.Readings.{reading_bits, reading_of, in_range, reading_allowed};
 
 use crate::kind::Kind;
@@ -102,9 +102,9 @@ impl Kind for Readings {
 
     ghost allowed = { λ _ v. reading_allowed v };
 
-    ghost low = { Prim.search rules };
+    ghost low = { λ _. lit≤ tt };
 
-    ghost high = { Prim.search rules };
+    ghost high = { λ _. lit≤ tt };
 
     fn number(&self) -> u8 {
         Readings::NUMBER

@@ -1,16 +1,15 @@
 -- The packets of the worked example.
-use Rattle.std.proofs.Common.{◌≡◌, ℕ, ◌+◌, ◌≤◌, Bool, true, false, cond, not, ◌&&◌, ◌||◌, eqb, List, [], ◌∷◌, ◌++◌, length, take, drop, Some, None, Option, sym, refl, ap, ◌∙◌, arith}
+use Rattle.std.proofs.Common.{◌≡◌, ℕ, ◌+◌, false, eqb, List, [], ◌∷◌, ◌++◌, length, Some, Option, sym, refl, ap, ◌∙◌, arith}
 use Rattle.paths.specs.Stations.{extended}
 use Rattle.seals.specs.CodeBooks.{book_tag}
 use Rattle.seals.specs.Worked.{count_from}
 use Rattle.std.proofs.lemmas.List.{append-nil, drop_all}
 use Rattle.std.proofs.lemmas.Bool.{cond-true, le-leb, ne_eqb}
 use Rattle.packets.specs.Bytes.{over}
-use Rattle.packets.specs.Form.{Parts, head_bytes, encode, packet_length}
+use Rattle.packets.specs.Form.{head_bytes, encode, packet_length}
 use Rattle.packets.specs.Tags.{sealed_parts}
 use Rattle.packets.specs.Calls.{placed}
 use Rattle.worked.specs.Notices.{books, notice, notice_by, WorkedPackets}
-use Rattle.packets.proofs.Writes.{zeros}
 use Rattle.packets.proofs.Forms.{encode-length, tags_for-length}
 
 pub worked : WorkedPackets

@@ -1,4 +1,4 @@
-use Rattle.std.proofs.Common.{◌≡◌, ◌+◌, ◌-◌, ◌<◌, take, drop, refl, ap, ◌∙◌, arith}
+use Rattle.std.proofs.Common.{◌+◌, ◌-◌, ◌<◌, arith}
 use Rattle.std.proofs.ByRecursion.{All-from_get_or}
 use Rattle.packets.specs.Laws.{Bytes}
 use Rattle.packets.proofs.Numbers.{padded-is, number_at-below}

@@ -1,8 +1,8 @@
-use Rattle.std.proofs.Common.{◌≡◌, ◌<◌, sym, ap, ◌∙◌, subst, arith, rules}
+use Rattle.std.proofs.Common.{◌<◌, sym, ap, ◌∙◌, subst, arith}
 use Rattle.std.proofs.ByRecursion.{All-from_get_or}
-use Rattle.packets.specs.Form.{encode, parts_in}
+use Rattle.packets.specs.Form.{encode}
 use Rattle.packets.specs.Laws.{Bytes, OneForm}
-use Rattle.packets.specs.Calls.{parts, RowRead}
+use Rattle.packets.specs.Calls.{RowRead}
 use Rattle.packets.proofs.OneForm.{form_in, one_form}
 use Rattle.packets.proofs.Steps.{packet-is}
 use Rattle.packets.proofs.reader.packet_in.Goals as goal

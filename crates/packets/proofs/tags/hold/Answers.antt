@@ -1,4 +1,4 @@
-use Rattle.std.proofs.Common.{◌≡◌, ◌<◌, min, length, take, sym, ap, ◌∙◌, arith}
+use Rattle.std.proofs.Common.{take, arith}
 use Rattle.paths.specs.Paths.{row_stations}
 use Rattle.packets.specs.Form.{parts_of}
 use Rattle.packets.proofs.OneForm.{made_by}

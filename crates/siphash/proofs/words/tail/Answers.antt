@@ -1,4 +1,4 @@
-use Rattle.std.proofs.Common.{◌≡◌, suc, ◌+◌, ◌-◌, ◌*◌, ◌/◌, ◌%◌, ◌^◌, ◌<◌, ◌≤◌, [], length, get_or, drop, sym, ap, ◌∙◌, arith, lit<}
+use Rattle.std.proofs.Common.{◌≡◌, ◌-◌, ◌*◌, ◌/◌, ◌^◌, ◌<◌, ◌≤◌, length, drop, sym, ap, ◌∙◌, arith, lit<}
 use native.Mathlib.Nat.{one-le-pow}
 use Rattle.std.proofs.lemmas.List.{at_drop_all}
 use Rattle.siphash.specs.SipHash.{little}

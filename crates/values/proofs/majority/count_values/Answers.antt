@@ -1,4 +1,4 @@
-use Rattle.std.proofs.Common.{◌≡◌, Some, None, arith}
+use Rattle.std.proofs.Common.{Some, None, arith}
 use Rattle.std.proofs.lemmas.List.{at_drop_all}
 use Rattle.values.specs.Reports.{values}
 use Rattle.values.proofs.Steps.{turn}

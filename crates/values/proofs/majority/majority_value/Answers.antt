@@ -1,6 +1,6 @@
-use Rattle.std.proofs.Common.{◌≡◌, true, false, Some, None, sym, ◌∙◌}
+use Rattle.std.proofs.Common.{Some, None, sym, ◌∙◌}
 use Rattle.std.proofs.lemmas.List.{at_drop_all}
-use Rattle.values.specs.Reports.{leader, leading, majority}
+use Rattle.values.specs.Reports.{leader}
 use Rattle.values.specs.Majorities.{majority-exact}
 use Rattle.values.proofs.Steps.{turn}
 use Rattle.values.proofs.majority.majority_value.Goals as goal

@@ -1,4 +1,4 @@
-use Rattle.std.proofs.Common.{◌≡◌, ℕ, List, [], ◌∷◌, Some, None, Option, sym, refl, ap, ◌∙◌, arith}
+use Rattle.std.proofs.Common.{◌≡◌, ℕ, [], ◌∷◌, Some, None, sym, refl, ap, ◌∙◌, arith}
 use Rattle.paths.specs.Paths.{stations, stations_in}
 use Rattle.paths.specs.Stations.{extended}
 use Rattle.packets.proofs.Writes.{zeros}

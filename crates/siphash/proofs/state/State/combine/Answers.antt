@@ -1,4 +1,4 @@
-use Rattle.std.proofs.Common.{◌≡◌, ◌%◌, ◌^◌, ◌<◌, arith, rules}
+use Rattle.std.proofs.Common.{◌^◌, ◌<◌, arith, rules}
 use lib.Bits.{bit_xor, xor_lt}
 use Rattle.siphash.proofs.state.State.combine.Goals as goal
 
