@@ -6,7 +6,7 @@ use Rattle.std.proofs.lemmas.Int.Digits.{number_push, number_lt}
 use Rattle.std.proofs.lemmas.List.{append-nil, append_assoc, length-append, length-drop, length-take-le, drop_all, drop-drop, drop-append-le, take_all}
 use Rattle.std.proofs.ByRecursion.{All-take, All-drop}
 use Rattle.std.specs.Int.Digits.{number_from_digits, number_from_digits_after}
-use Rattle.std.specs.List.{AllByRecursion as All}
+use Rattle.std.specs.List.{AllByRecursion}
 use Rattle.packets.specs.Bytes.{bytes_of, number_at}
 use Rattle.packets.proofs.Writes.{bytes_of-length}
 
@@ -29,7 +29,7 @@ abbrev high_first : List ℕ → ℕ
 high_first xs = get_or xs 0 0 * 72057594037927936 + get_or xs 1 0 * 281474976710656 + get_or xs 2 0 * 1099511627776 + get_or xs 3 0 * 4294967296 + get_or xs 4 0 * 16777216 + get_or xs 5 0 * 65536 + get_or xs 6 0 * 256 + get_or xs 7 0
 
 -- zeros before a number do not count
-number-zeros : (xs ys : List ℕ) → All (λ x. x ≡ 0) xs → number_from_digits 256 (xs ++ ys) ≡ number_from_digits 256 ys
+number-zeros : (xs ys : List ℕ) → AllByRecursion (λ x. x ≡ 0) xs → number_from_digits 256 (xs ++ ys) ≡ number_from_digits 256 ys
 number-zeros [] ys z = refl
 number-zeros (x ∷ xs) ys z = ap (λ d. number_from_digits_after 256 (0 * 256 + d) (xs ++ ys)) z.0 ∙ number-zeros xs ys z.1
 
@@ -60,7 +60,7 @@ padded-is w at b m k part r short within end room copied read =
     let both = length-append front part in
     read ∙ ap high_first whole ∙ eight (front ++ part) (omega arith) ∙ number-zeros front part (All-take (λ x. x ≡ 0) (8 - w) zeros (refl, (refl, (refl, (refl, (refl, (refl, (refl, (refl, tt))))))))) ∙ ap (number_from_digits 256) here
 
-pub number_at-below : (w at : ℕ) (b : List ℕ) (r : ℕ) → All (λ x. x < 256) b → at + w ≤ length b → r ≡ number_at w at b → r < 256 ^ w
+pub number_at-below : (w at : ℕ) (b : List ℕ) (r : ℕ) → AllByRecursion (λ x. x < 256) b → at + w ≤ length b → r ≡ number_at w at b → r < 256 ^ w
 number_at-below w at b r bytes within is =
     let part = take w (drop at b) in
     let long : length part ≡ w = length-take-le w (drop at b) (simp length-drop (omega arith)) in
@@ -75,7 +75,7 @@ number-bytes_of (suc w) n h =
     let part : n / 256 < 256 ^ w = div_below n 256 (256 ^ w) (lit< tt) (omega (arith, pow-suc 256 w)) in
     number_push 256 (bytes_of w (n / 256)) (n % 256) ∙ ap (λ m. m * 256 + n % 256) (number-bytes_of w (n / 256) part) ∙ div-add-mod' n 256
 
-bytes_of-after : (w n : ℕ) (ds : List ℕ) → All (λ x. x < 256) ds → bytes_of (w + length ds) (number_from_digits_after 256 n ds) ≡ bytes_of w n ++ ds
+bytes_of-after : (w n : ℕ) (ds : List ℕ) → AllByRecursion (λ x. x < 256) ds → bytes_of (w + length ds) (number_from_digits_after 256 n ds) ≡ bytes_of w n ++ ds
 bytes_of-after w n [] u = ap (λ k. bytes_of k n) (add-zero w) ∙ sym (append-nil (bytes_of w n))
 bytes_of-after w n (d ∷ ds) u =
     let turn : w + length (d ∷ ds) ≡ suc w + length ds = omega arith in
@@ -83,9 +83,9 @@ bytes_of-after w n (d ∷ ds) u =
     ap (λ m. bytes_of w m ++ (n * 256 + d) % 256 ∷ []) (div-mul-add n 256 d u.0) ∙ ap (λ m. bytes_of w n ++ m ∷ []) (mod-mul-add n 256 d u.0) in
     ap (λ k. bytes_of k (number_from_digits_after 256 (n * 256 + d) ds)) turn ∙ bytes_of-after (suc w) (n * 256 + d) ds u.1 ∙ ap (λ xs. xs ++ ds) last ∙ append_assoc (bytes_of w n) (d ∷ []) ds
 
-pub bytes_of-number : (w : ℕ) (ds : List ℕ) → length ds ≡ w → All (λ x. x < 256) ds → bytes_of w (number_from_digits 256 ds) ≡ ds
+pub bytes_of-number : (w : ℕ) (ds : List ℕ) → length ds ≡ w → AllByRecursion (λ x. x < 256) ds → bytes_of w (number_from_digits 256 ds) ≡ ds
 bytes_of-number w ds e u = let z : w ≡ 0 + length ds = omega arith in ap (λ k. bytes_of k (number_from_digits 256 ds)) z ∙ bytes_of-after 0 0 ds u
 
-pub bytes_of-at : (w at : ℕ) (b : List ℕ) → All (λ x. x < 256) b → at + w ≤ length b → bytes_of w (number_at w at b) ≡ take w (drop at b)
+pub bytes_of-at : (w at : ℕ) (b : List ℕ) → AllByRecursion (λ x. x < 256) b → at + w ≤ length b → bytes_of w (number_at w at b) ≡ take w (drop at b)
 bytes_of-at w at b u h =
     bytes_of-number w (take w (drop at b)) (length-take-le w (drop at b) (simp length-drop (omega arith))) (All-take (λ x. x < 256) w (drop at b) (All-drop (λ x. x < 256) at b u))

@@ -1,7 +1,7 @@
 -- What was written is what is read.
 use Rattle.std.proofs.Common.{◌≡◌, ℕ, zero, suc, ◌+◌, ◌*◌, ◌^◌, ◌<◌, ◌≤◌, true, List, [], ◌∷◌, ◌++◌, length, get_or, take, drop, Ok, sym, refl, ap, ◌∙◌, ⊎_elim, zero-mul, add-one, arith}
 use Rattle.std.specs.Int.Digits.{number_from_digits}
-use Rattle.std.specs.List.{AllByRecursion as All}
+use Rattle.std.specs.List.{AllByRecursion}
 use Rattle.std.proofs.lemmas.List.{append_assoc, append-nil, length-append, length-take-le, take_at, drop_at, drop-drop, take_all, take-append-le, take_more, get_or_append_left, get_or_at}
 use Rattle.std.proofs.ByRecursion.{All-get_or, All-push}
 use Rattle.std.proofs.lemmas.Bool.{cases_eq, and_from, cond-true, cond-false, eq-eqb, le-leb, le-ltb, not_from_true}
@@ -30,7 +30,7 @@ pub record Fits (w : ℕ) (p : Parts) : Type 0 where
   pub low : 1 ≤ length p.path
   pub high : length p.path ≤ 4
   pub as_many : length p.tags ≡ length p.path
-  pub tags : All (λ x. x < 256 ^ w) p.tags
+  pub tags : AllByRecursion (λ x. x < 256 ^ w) p.tags
 
 -- tag i of a list of tags stands at its place
 tag-there : (w : ℕ) (xs : List ℕ) (i : ℕ) (rest : List ℕ) → i < length xs → take w (drop (i * w) (tag_bytes w xs ++ rest)) ≡ bytes_of w (get_or xs i 0)
@@ -134,7 +134,7 @@ module _ (tag : ℕ → List ℕ → ℕ) (h : Header) (t : List ℕ) where
   sealed-hold_to (suc i) l =
       and_from _ _ (sealed-hold_to i (omega arith)) (eq-eqb _ _ (tags_for-at (length t) i (omega arith)))
 
-  tags_for-fit : (w : ℕ) → ((j : ℕ) (m : List ℕ) → tag j m < 256 ^ w) → (i : ℕ) → All (λ x. x < 256 ^ w) (tags_for tag h t i)
+  tags_for-fit : (w : ℕ) → ((j : ℕ) (m : List ℕ) → tag j m < 256 ^ w) → (i : ℕ) → AllByRecursion (λ x. x < 256 ^ w) (tags_for tag h t i)
   tags_for-fit w fits zero = tt
   tags_for-fit w fits (suc i) = All-push (λ x. x < 256 ^ w) (tags_for tag h t i) (tag_for tag h t i) (tags_for-fit w fits i) (fits (get_or t i 0) (sealed_bytes h t (i + 1)))
 

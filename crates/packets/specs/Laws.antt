@@ -1,6 +1,6 @@
 -- What holds of the byte form and of the seal's tags.
 use Rattle.std.specs.Prelude.{◌≡◌, ℕ, ◌+◌, ◌<◌, true, List, [], ◌∷◌, ◌++◌, length, take, drop, Some, None, Ok, Err, Option, Result}
-use Rattle.std.specs.List.{AllByRecursion as All}
+use Rattle.std.specs.List.{AllByRecursion}
 use Rattle.packets.specs.declared.header.Header.{Header}
 use Rattle.packets.specs.declared.packet.Malformed.{Malformed}
 use Rattle.packets.specs.Form.{Parts, encode, packet_length}
@@ -9,7 +9,7 @@ use Rattle.packets.specs.Calls.{decode_front, decode}
 
 -- each is below 256
 abbrev pub Bytes : List ℕ → Type 0
-Bytes b = All (λ x. x < 256) b
+Bytes b = AllByRecursion (λ x. x < 256) b
 
 -- What was written reads as the packet that it was, also where other bytes follow, and its tags are the seal's. Whoever relays
 -- it keeps its tags and adds one.
