@@ -1,8 +1,8 @@
 -- The tag of the code-book seal.
 use Rattle.std.specs.Prelude.{ℕ, ◌+◌, ◌*◌, ◌/◌, ◌%◌, ◌^◌, ◌<◌, true, false, cond, List, [], ◌∷◌, bit_xor, nat_lt, slice_index}
+use Rattle.std.specs.Int.{w16, rotate_left}
 use Rattle.std.proofs.Common.{arith, lit<}
 use Rattle.std.proofs.lemmas.Nat.{or_lt, xor_lt}
-use Rattle.siphash.specs.Rotations.{rotated}
 
 -- the word of byte b in the book of station j, 16 bits; a word past the end of the books counts as 0
 abbrev pub word_of : List ℕ → ℕ → ℕ → ℕ
@@ -10,7 +10,7 @@ word_of books j b = slice_index books (256 * j + b) % 2 ^ 16
 
 -- a tag rotated, then combined with a word
 abbrev pub mixed : ℕ → ℕ → ℕ
-mixed t word = bit_xor (rotated 16 t 1) word
+mixed t word = bit_xor (rotate_left w16 t 1) word
 
 -- the tag t carried on over a message, byte by byte
 abbrev pub carried : List ℕ → ℕ → ℕ → List ℕ → ℕ
@@ -25,7 +25,7 @@ book_tag books j m = cond (nat_lt 6 j) 0 (carried books j 0 m)
 
 pub mixed-fits : (t word : ℕ) → t < 2 ^ 16 → word < 2 ^ 16 → mixed t word < 2 ^ 16
 mixed-fits t word h k =
-    xor_lt 16 (rotated 16 t 1) word (or_lt 16 (t * 2 % 2 ^ 16) (t / 2 ^ 15) (omega arith) (omega arith)) k
+    xor_lt 16 (rotate_left w16 t 1) word (or_lt 16 (t * 2 % 2 ^ 16) (t / 2 ^ 15) (omega arith) (omega arith)) k
 
 pub carried-fits : (books : List ℕ) (j t : ℕ) (m : List ℕ) → t < 2 ^ 16 → carried books j t m < 2 ^ 16
 carried-fits books j t [] h = h

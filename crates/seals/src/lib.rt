@@ -5,14 +5,12 @@
 //! bytes, SipHash-2-4 under a key for each station. Code that is generic over `Seal` is proved once for both.
 #![tactic(auto)]
 
-pub mod byte_count;
 pub mod code_book;
 pub mod seal;
 pub mod sip_seal;
 pub mod worked;
 
-pub use byte_count::{ByteCount, Bytes};
 pub use code_book::CodeBook;
 pub use seal::{LAST_STATION, Seal};
 pub use sip_seal::SipKeys;
-pub use worked::{counting_words, worked_tags};
+pub use worked::{counting_keys, counting_words, worked_tags};

@@ -2,8 +2,7 @@ ghost use Rattle.std.proofs.Common.{lit≤};
 ghost use Rattle.std.specs.Prelude.{◌≡◌, ℕ, ◌≤◌};
 ghost use Rattle.seals.specs.SipSeals.{sip_tag, sip_tag-fits};
 
-use crate::byte_count::{ByteCount, Bytes};
-use crate::seal::{LAST_STATION, Seal};
+use crate::seal::Seal;
 use siphash::Key;
 
 /// The long seal: SipHash-2-4 under a key for each of stations 0 to 6.
@@ -22,31 +21,22 @@ impl SipKeys {
 }
 
 impl Seal for SipKeys {
-    type Width = Bytes<8>;
+    const WIDTH: usize = 8;
 
-    const WIDTH: Bytes<8> = Bytes;
+    ghost WIDTH = { 8 };
 
-    ghost wide = { 8 };
+    ghost meaning = { λ s j m. sip_tag s.keys j m };
+
+    fn tag(&self, station: u8, message: &[u8]) -> u64 {
+        match self.keys.get(station as usize) {
+            Some(key) => key.hash(message),
+            None => 0,
+        }
+    }
 
     ghost low = { lit≤ tt };
 
     ghost high = { lit≤ tt };
 
-    ghost meaning = { λ s j m. sip_tag s.keys j m };
-
     ghost fits = { λ s j m. sip_tag-fits s.keys j m };
-
-    fn tag_width() -> usize
-        ensures named { result ≡ 8 }
-        ensures constant { result ≡ 8 }
-    {
-        Self::WIDTH.get()
-    }
-
-    fn tag(&self, station: u8, message: &[u8]) -> u64 {
-        if station > LAST_STATION {
-            return 0;
-        }
-        self.keys[station as usize].hash(message)
-    }
 }

@@ -1,3 +1,2 @@
-pub mod Rotations
 pub mod SipHash
 pub mod Worked

@@ -1,9 +1,9 @@
 -- SipHash-2-4: the hash of a message, a number of 64 bits, under a key of 16 bytes.
 use Rattle.std.specs.Prelude.{ℕ, zero, suc, ◌+◌, ◌*◌, ◌/◌, ◌%◌, ◌^◌, ◌<◌, List, [], ◌∷◌, length, take, drop, bit_xor}
+use Rattle.std.specs.Int.{w64, rotate_left}
 use Rattle.std.proofs.Common.{arith}
 use Rattle.siphash.specs.declared.key.Key.{Key}
 use Rattle.siphash.specs.declared.state.State.{State}
-use Rattle.siphash.specs.Rotations.{rotated}
 
 -- Words.
 
@@ -26,24 +26,21 @@ sum a b = (a + b) % 2 ^ 64
 
 -- Rounds.
 
-abbrev pub half1 : State → State
-half1 s = record {
-  v0 = rotated 64 (sum s.v0 s.v1) 32;
-  v1 = bit_xor (rotated 64 s.v1 13) (sum s.v0 s.v1);
+-- half a round: v1 is rotated by k bits and v3 by l
+abbrev pub half_round : ℕ → ℕ → State → State
+half_round k l s = record {
+  v0 = rotate_left w64 (sum s.v0 s.v1) 32;
+  v1 = bit_xor (rotate_left w64 s.v1 k) (sum s.v0 s.v1);
   v2 = sum s.v2 s.v3;
-  v3 = bit_xor (rotated 64 s.v3 16) (sum s.v2 s.v3);
+  v3 = bit_xor (rotate_left w64 s.v3 l) (sum s.v2 s.v3);
 }
 
-abbrev pub half2 : State → State
-half2 s = record {
-  v0 = sum s.v0 s.v3;
-  v1 = bit_xor (rotated 64 s.v1 17) (sum s.v2 s.v1);
-  v2 = rotated 64 (sum s.v2 s.v1) 32;
-  v3 = bit_xor (rotated 64 s.v3 21) (sum s.v0 s.v3);
-}
+-- v0 and v2 exchanged
+abbrev pub crossed : State → State
+crossed s = record { v0 = s.v2; v1 = s.v1; v2 = s.v0; v3 = s.v3 }
 
 unfoldable pub round : State → State
-round s = half2 (half1 s)
+round s = crossed (half_round 17 21 (crossed (half_round 13 16 s)))
 
 -- The message, word by word.
 

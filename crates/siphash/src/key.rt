@@ -2,7 +2,7 @@ ghost use Rattle.std.specs.Prelude.{◌≡◌};
 ghost use Rattle.siphash.specs.SipHash.{key_of, sip_hash};
 
 use crate::state::State;
-use crate::words::{last_word, word_at};
+use crate::words::{last_word, word};
 
 /// A key of 16 bytes, as two words.
 #[derive(Clone, Copy)]
@@ -16,9 +16,10 @@ impl Key {
     pub fn new(bytes: &[u8; 16]) -> Key
         ensures { result ≡ key_of bytes.now }
     {
+        let (words, _) = bytes.as_chunks::<8>();
         Key {
-            k0: word_at(bytes, 0),
-            k1: word_at(bytes, 1),
+            k0: word(&words[0]),
+            k1: word(&words[1]),
         }
     }
 

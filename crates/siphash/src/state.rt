@@ -1,8 +1,8 @@
 ghost use Rattle.std.specs.Prelude.{◌≡◌, ◌/◌, length};
-ghost use Rattle.siphash.specs.SipHash.{half1, half2, round as round_of, start as start_of, compress as compressed, absorbed, into_v2, combined, finish as finished};
+ghost use Rattle.siphash.specs.SipHash.{half_round, crossed, round as round_of, start as start_of, compress as compressed, absorbed, into_v2, combined, finish as finished};
 
 use crate::key::Key;
-use crate::words::word_at;
+use crate::words::word;
 
 /// The four words that SipHash works on.
 #[derive(Clone, Copy)]
@@ -26,44 +26,44 @@ impl State {
         }
     }
 
-    fn first_half(self) -> State
-        ensures { result ≡ half1 self }
+    /// Half a round: v1 is rotated by `K` bits and v3 by `L`.
+    fn half_round<const K: u32, const L: u32>(self) -> State
+        ensures { result ≡ half_round K L self }
     {
         let v0 = self.v0.wrapping_add(self.v1);
-        let v1 = self.v1.rotate_left(13) ^ v0;
         let v2 = self.v2.wrapping_add(self.v3);
-        let v3 = self.v3.rotate_left(16) ^ v2;
         State {
             v0: v0.rotate_left(32),
-            v1,
+            v1: self.v1.rotate_left(K) ^ v0,
             v2,
-            v3,
+            v3: self.v3.rotate_left(L) ^ v2,
         }
     }
 
-    fn second_half(self) -> State
-        ensures { result ≡ half2 self }
+    /// v0 and v2 exchanged, which turns the first half of a round into the second.
+    fn crossed(self) -> State
+        ensures { result ≡ crossed self }
     {
-        let v0 = self.v0.wrapping_add(self.v3);
-        let v3 = self.v3.rotate_left(21) ^ v0;
-        let v2 = self.v2.wrapping_add(self.v1);
-        let v1 = self.v1.rotate_left(17) ^ v2;
         State {
-            v0,
-            v1,
-            v2: v2.rotate_left(32),
-            v3,
+            v0: self.v2,
+            v2: self.v0,
+            ..self
         }
     }
 
     /// One round.
+    #[tactic(auto, unfolding(crate::specs::SipHash::round))]
     fn round(self) -> State
         ensures { result ≡ round_of self }
     {
-        self.first_half().second_half()
+        self.half_round::<13, 16>()
+            .crossed()
+            .half_round::<17, 21>()
+            .crossed()
     }
 
     /// One word more of the message, in two rounds.
+    #[tactic(auto, unfolding(crate::specs::SipHash::compress))]
     pub(crate) fn compress(self, word: u64) -> State
         ensures { result ≡ compressed self word }
     {
@@ -82,9 +82,10 @@ impl State {
     pub(crate) fn absorb(self, message: &[u8]) -> State
         ensures { result ≡ absorbed self message.now (length message.now / 8) }
     {
+        let (words, _) = message.as_chunks::<8>();
         let mut state = self;
-        for i in 0..message.len() / 8 {
-            state = state.compress(word_at(message, i));
+        for bytes in words {
+            state = state.compress(word(bytes));
         }
         state
     }

@@ -4,5 +4,6 @@ use Rattle.seals.proofs.code_book.CodeBook.carry.Given as goal
 
 -- the bytes that are left carry the tag to the answer
 abbrev pub invariant-loop-byte : goal.invariant-loop-byte
-invariant-loop-byte l =
-    carried l.self.words.now l.station l.tag (drop l.byte-index l.message) ≡ carried l.self.words.now l.station 0 l.message
+invariant-loop-byte g l =
+    carried (g.W.AsSlice.items l.self.words) l.station l.tag (drop l.byte-index l.message)
+    ≡ carried (g.W.AsSlice.items l.self.words) l.station 0 l.message
