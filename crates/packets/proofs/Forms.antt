@@ -1,12 +1,13 @@
 -- The parts of a packet's byte form, and their lengths.
-use Rattle.std.proofs.Common.{◌≡◌, ℕ, zero, suc, ◌+◌, ◌*◌, ◌<◌, ◌≤◌, false, ◌&&◌, eqb, List, [], ◌∷◌, ◌++◌, length, get_or, take, sym, refl, ap, ◌∙◌, mul-le-mul_right, add-mul, one-mul, zero-mul, mul-one, mul-add, add-one, arith}
-use Rattle.std.proofs.lemmas.List.{append_assoc, append-nil, length-append, length_push, length-take-le}
+use Rattle.std.proofs.Common.{◌≡◌, ℕ, zero, suc, ◌+◌, ◌*◌, ◌<◌, ◌≤◌, false, ◌&&◌, eqb, List, [], ◌∷◌, ◌++◌, length, get_or, take, drop, sym, refl, ap, ◌∙◌, mul-le-mul_right, add-mul, one-mul, zero-mul, mul-one, mul-add, add-one, arith}
+use borrow.Rule.Slice.PartMut.{put_mid}
+use Rattle.std.proofs.lemmas.List.{append_assoc, append-nil, length-append, length_push, length-take-le, take_at}
 use Rattle.std.proofs.lemmas.Bool.{and_left}
 use Rattle.packets.specs.declared.header.Header.{Header}
-use Rattle.packets.specs.Bytes.{bytes_of, over}
+use Rattle.packets.specs.Bytes.{bytes_of}
 use Rattle.packets.specs.Form.{Parts, head_bytes, tag_bytes, encode, packet_length, tag_in, tags_in}
 use Rattle.packets.specs.Tags.{sealed_bytes, tag_for, tags_for, hold_to}
-use Rattle.packets.proofs.Writes.{bytes_of-length, over-more, over-front}
+use Rattle.packets.proofs.Writes.{bytes_of-length}
 
 -- i + 1 parts of w bytes
 pub parts_more : (i w : ℕ) → (i + 1) * w ≡ i * w + w
@@ -63,15 +64,15 @@ module _ (tag : ℕ → List ℕ → ℕ) (h : Header) (t : List ℕ) where
   tags_for-length (suc i) = length_push (tags_for tag h t i) (tag_for tag h t i) ∙ ap (λ n. n + 1) (tags_for-length i) ∙ add-one i
 
 -- what is sealed, as it is made in a buffer
-pub sealed-is : (old one two : List ℕ) (h : Header) (t : List ℕ) (n k : ℕ) → one ≡ over old 0 (head_bytes h n) → two ≡ over one 14 (take k t)
-    → 18 ≤ length old → length t ≤ 4 → n ≤ length t → k ≡ n → take (14 + n) two ≡ sealed_bytes h t n
-sealed-is old one two h t n k first second room short in' part =
-    let head = head_bytes-length h n in
-    let long : length (take n t) ≡ n = length-take-le n t in' in
-    let ys = sealed_bytes h t n in
-    let all = length-append (head_bytes h n) (take n t) in
-    let made : two ≡ over old 0 ys = second ∙ ap (λ m. over one 14 (take m t)) part ∙ over-more old one 0 (head_bytes h n) (take n t) 14 first (omega arith) (omega arith) in
-    ap (take (14 + n)) made ∙ over-front old ys (14 + n) (omega arith) (omega arith)
+pub sealed-is : (h : Header) (t : List ℕ) (n m : ℕ) (head path : List ℕ) → n ≤ length t → head ≡ head_bytes h n → path ≡ take n t
+    → take (14 + n) (put_mid 14 m (head ++ 0 ∷ 0 ∷ 0 ∷ 0 ∷ []) path) ≡ sealed_bytes h t n
+sealed-is h t n m head path in' to-head to-path =
+    let zeros : List ℕ = 0 ∷ 0 ∷ 0 ∷ 0 ∷ [] in
+    let rest = drop m (drop 14 (head ++ zeros)) in
+    let long : length head ≡ 14 = ap length to-head ∙ head_bytes-length h n in
+    let all : length (head ++ path) ≡ 14 + n = length-append head path ∙ omega (arith, long, ap length to-path ∙ length-take-le n t in') in
+    ap (λ us. take (14 + n) (us ++ (path ++ rest))) (take_at head zeros 14 long) ∙ ap (take (14 + n)) (sym (append_assoc head path rest)) ∙ take_at (head ++ path) rest (14 + n) all
+    ∙ ap (λ us. us ++ path) to-head ∙ ap (λ us. head_bytes h n ++ us) to-path
 
 -- Tags that were read.
 

@@ -4,3 +4,4 @@ pub mod Forms
 pub mod Steps
 pub mod RoundTrip
 pub mod OneForm
+pub mod Held

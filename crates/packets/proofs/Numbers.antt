@@ -1,8 +1,8 @@
 -- Numbers read from bytes.
-use Rattle.std.proofs.Common.{◌≡◌, ℕ, zero, suc, ◌+◌, ◌-◌, ◌*◌, ◌/◌, ◌%◌, ◌^◌, ◌<◌, ◌≤◌, List, [], ◌∷◌, ◌++◌, length, get_or, take, drop, sym, refl, ap, ◌∙◌, subst, add-zero, pow-suc, arith, lit<}
+use Rattle.std.proofs.Common.{◌≡◌, ℕ, zero, suc, ◌+◌, ◌-◌, ◌*◌, ◌/◌, ◌%◌, ◌^◌, ◌<◌, ◌≤◌, List, [], ◌∷◌, ◌++◌, length, get_or, take, drop, sym, refl, ap, ◌∙◌, add-zero, pow-suc, arith, lit<}
 use borrow.Rule.Slice.PartMut.{put_mid}
 use Rattle.std.proofs.lemmas.Nat.{div_below, div-add-mod', div-mul-add, mod-mul-add}
-use Rattle.std.proofs.lemmas.Int.Digits.{number_push, number_lt}
+use Rattle.std.proofs.lemmas.Int.Digits.{number_push}
 use Rattle.std.proofs.lemmas.List.{append-nil, append_assoc, length-append, length-drop, length-take-le, drop_all, drop-drop, drop-append-le, take_all}
 use Rattle.std.proofs.ByRecursion.{All-take, All-drop}
 use Rattle.std.specs.Int.Digits.{number_from_digits, number_from_digits_after}
@@ -46,26 +46,18 @@ eight (a ∷ b ∷ c ∷ d ∷ e ∷ f ∷ []) l = absurd (omega arith)
 eight (a ∷ b ∷ c ∷ d ∷ e ∷ f ∷ g ∷ []) l = absurd (omega arith)
 eight (a ∷ b ∷ c ∷ d ∷ e ∷ f ∷ g ∷ h ∷ i ∷ xs) l = absurd (omega arith)
 
--- a number that was copied behind zeros
-pub padded-is : (w at : ℕ) (b : List ℕ) (m k : ℕ) (part : List ℕ) (r : ℕ) → w ≤ 8 → at + w ≤ length b → m ≡ w → k ≡ w → part ≡ take m (drop at b)
-    → r ≡ high_first (put_mid (8 - w) k (0 ∷ 0 ∷ 0 ∷ 0 ∷ 0 ∷ 0 ∷ 0 ∷ 0 ∷ []) part) → r ≡ number_at w at b
-padded-is w at b m k part r short within end room copied read =
+-- a number whose bytes were copied behind zeros
+pub number-padded : (part written : List ℕ) (k r : ℕ) → length part ≤ 8 → k ≡ length part → written ≡ part
+    → r ≡ high_first (put_mid (8 - length part) k (0 ∷ 0 ∷ 0 ∷ 0 ∷ 0 ∷ 0 ∷ 0 ∷ 0 ∷ []) written) → r ≡ number_from_digits 256 part
+number-padded part written k r short room copied read =
+    let w = length part in
     let zeros : List ℕ = 0 ∷ 0 ∷ 0 ∷ 0 ∷ 0 ∷ 0 ∷ 0 ∷ 0 ∷ [] in
     let front : List ℕ = take (8 - w) zeros in
-    let here : part ≡ take w (drop at b) = copied ∙ ap (λ n. take n (drop at b)) end in
-    let long : length part ≡ w = ap length here ∙ length-take-le w (drop at b) (simp length-drop (omega arith)) in
     let short-front : length front ≡ 8 - w = length-take-le (8 - w) zeros (omega arith) in
     let none : drop k (drop (8 - w) zeros) ≡ [] = drop-drop k (8 - w) zeros ∙ drop_all (8 - w + k) zeros (omega arith) in
-    let whole : put_mid (8 - w) k zeros part ≡ front ++ part = ap (λ us. front ++ (part ++ us)) none ∙ ap (λ us. front ++ us) (append-nil part) in
+    let whole : put_mid (8 - w) k zeros written ≡ front ++ part = ap (λ us. front ++ (written ++ us)) none ∙ ap (λ us. front ++ us) (append-nil written ∙ copied) in
     let both = length-append front part in
-    read ∙ ap high_first whole ∙ eight (front ++ part) (omega arith) ∙ number-zeros front part (All-take (λ x. x ≡ 0) (8 - w) zeros (refl, (refl, (refl, (refl, (refl, (refl, (refl, (refl, tt))))))))) ∙ ap (number_from_digits 256) here
-
-pub number_at-below : (w at : ℕ) (b : List ℕ) (r : ℕ) → AllByRecursion (λ x. x < 256) b → at + w ≤ length b → r ≡ number_at w at b → r < 256 ^ w
-number_at-below w at b r bytes within is =
-    let part = take w (drop at b) in
-    let long : length part ≡ w = length-take-le w (drop at b) (simp length-drop (omega arith)) in
-    let below = number_lt 256 part (All-take (λ x. x < 256) w (drop at b) (All-drop (λ x. x < 256) at b bytes)) in
-    subst (λ x. x < 256 ^ w) (sym is) (subst (λ n. number_from_digits 256 part < 256 ^ n) long below)
+    read ∙ ap high_first whole ∙ eight (front ++ part) (omega arith) ∙ number-zeros front part (All-take (λ x. x ≡ 0) (8 - w) zeros (refl, (refl, (refl, (refl, (refl, (refl, (refl, (refl, tt)))))))))
 
 -- A number is what its bytes say, and bytes are those of the number that they say.
 

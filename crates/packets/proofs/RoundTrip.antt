@@ -119,7 +119,7 @@ whole_back w p f =
 -- The packet that the stations of a path make of a header.
 
 module _ (tag : ℕ → List ℕ → ℕ) (h : Header) (t : List ℕ) where
-  tags_for-at : (k i : ℕ) → i < k → get_or (tags_for tag h t k) i 0 ≡ tag_for tag h t i
+  pub tags_for-at : (k i : ℕ) → i < k → get_or (tags_for tag h t k) i 0 ≡ tag_for tag h t i
   tags_for-at zero i l = absurd (omega arith)
   tags_for-at (suc k) i l =
       let before = tags_for tag h t k in

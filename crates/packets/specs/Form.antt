@@ -1,5 +1,5 @@
 -- The byte form of a packet, for tags of w bytes.
-use Rattle.std.specs.Prelude.{ℕ, zero, suc, ◌+◌, ◌*◌, List, [], ◌∷◌, ◌++◌, length, take, drop, slice_index}
+use Rattle.std.specs.Prelude.{ℕ, zero, suc, ◌+◌, ◌*◌, ◌≤◌, List, [], ◌∷◌, ◌++◌, length, take, drop, slice_index}
 use Rattle.packets.specs.declared.header.Header.{Header}
 use Rattle.packets.specs.Headers.{header_of}
 use Rattle.packets.specs.Bytes.{bytes_of, number_at}
@@ -34,6 +34,10 @@ packet_length w k = 14 + k * (1 + w)
 
 abbrev pub count_in : List ℕ → ℕ
 count_in b = slice_index b 1
+
+-- the bytes hold the whole packet that they begin with, whose path is not too long
+abbrev pub Whole : ℕ → List ℕ → Type 0
+Whole w b = (count_in b ≤ 4) × (packet_length w (count_in b) ≤ length b)
 
 abbrev pub header_in : List ℕ → Header
 header_in b = header_of (slice_index b 0) (number_at 2 2 b) (number_at 2 4 b) (number_at 8 6 b)

@@ -9,7 +9,7 @@ mod bytes;
 pub mod header;
 pub mod packet;
 pub mod reader;
-mod tags;
+mod unsealed;
 pub mod writer;
 
 pub use header::Header;

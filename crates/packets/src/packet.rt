@@ -1,5 +1,11 @@
+ghost use Rattle.std.specs.Prelude.{◌≡◌, min, length, take};
+
 use crate::header::Header;
-use paths::Row;
+use crate::unsealed::Unsealed;
+use paths::{LONGEST, Row};
+use seals::Seal;
+use std::error::Error;
+use std::fmt;
 
 /// A packet as it was read. Nothing is known of it: its row may be no path, and its tags may be wrong.
 #[derive(Clone, Copy)]
@@ -12,6 +18,32 @@ pub struct Packet {
     pub(crate) tags: [u64; 4],
 }
 
+impl Packet {
+    ghost use Rattle.packets.specs.Calls.{parts};
+    ghost use Rattle.packets.specs.Laws.{MadeByStations};
+    ghost use Rattle.packets.specs.Tags.{tags_hold};
+
+    /// The tags of the stations in its row.
+    fn tags(&self) -> &[u64]
+        ensures is { result.now ≡ take self.now.row.len self.now.tags }
+        ensures count { length result.now ≡ min self.now.row.len 4 }
+    {
+        &self.tags[..self.row.len.min(LONGEST)]
+    }
+
+    /// Whether each station on the packet's path has the tag that the seal gives it. Nothing is changed.
+    pub fn tags_hold<S: Seal>(&self, seal: &S) -> bool
+        ensures is { result ≡ tags_hold (S.meaning seal.now) (parts self.now) }
+        ensures made { MadeByStations (S.meaning seal.now) (parts self.now) }
+    {
+        let unsealed = Unsealed {
+            header: self.header,
+            stations: self.row.stations(),
+        };
+        unsealed.has_tags(seal, self.tags())
+    }
+}
+
 /// A packet at the front of some bytes, and how many of them it takes.
 #[derive(Clone, Copy)]
 pub struct Front {
@@ -21,7 +53,7 @@ pub struct Front {
 }
 
 /// Why bytes are no packet.
-#[derive(Clone, Copy, PartialEq, Eq)]
+#[derive(Clone, Copy, PartialEq, Eq, Debug)]
 pub enum Malformed {
     /// There are fewer than 15.
     TooShort,
@@ -30,3 +62,15 @@ pub enum Malformed {
     /// There are more or fewer than the packet takes.
     WrongLength,
 }
+
+impl fmt::Display for Malformed {
+    fn fmt<W: fmt::Write>(&self, f: &mut fmt::Formatter<W>) -> fmt::Result {
+        f.write_str(match self {
+            Malformed::TooShort => "too short",
+            Malformed::PathLength => "path length",
+            Malformed::WrongLength => "wrong length",
+        })
+    }
+}
+
+impl Error for Malformed {}

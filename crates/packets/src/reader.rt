@@ -1,29 +1,16 @@
 ghost use Rattle.std.specs.Prelude.{◌≡◌, ◌+◌, ◌<◌, ◌≤◌, [], ◌∷◌, ◌++◌, length, take, drop};
 ghost use Rattle.packets.specs.Calls.{parts, row_in, RowRead, front_parts, decode_front, FrontWithin, read_parts, decode, ReadWithin};
-ghost use Rattle.packets.specs.Form.{encode, count_in, header_in, path_in, tag_in, tags_in, parts_in, packet_length};
+ghost use Rattle.packets.specs.Form.{encode, Whole, count_in, path_in, tag_in, tags_in, parts_in, packet_length};
 ghost use Rattle.packets.specs.Laws.{FrontForm, OneForm, ReadForm};
 ghost use Rattle.paths.specs.Paths.{row_stations};
 
-use crate::bytes::number_at;
-use crate::header::Header;
+use crate::bytes::number;
+use crate::header::{HEADER_LEN, Header};
 use crate::packet::{Front, Malformed, Packet};
-use crate::tags::HEADER_LEN;
 use crate::writer::length_with;
 use paths::{LONGEST, Row};
 use seals::Seal;
-
-/// The numbers in bytes 0 to 13.
-fn header_in(bytes: &[u8]) -> Header
-    requires { 14 ≤ length bytes.now }
-    ensures { result ≡ header_in bytes.now }
-{
-    Header {
-        kind: bytes[0],
-        sounding: number_at(bytes, 2, 2) as u16,
-        level: number_at(bytes, 4, 2) as u16,
-        value: number_at(bytes, 6, 8),
-    }
-}
+use std::array;
 
 /// Up to four bytes at the front of a row of four.
 fn four(part: &[u8]) -> [u8; 4]
@@ -32,7 +19,7 @@ fn four(part: &[u8]) -> [u8; 4]
     ensures front { take (length part.now) result ≡ part.now }
 {
     let mut numbers = [0; 4];
-    numbers[0..part.len()].copy_from_slice(part);
+    numbers[..part.len()].copy_from_slice(part);
     numbers
 }
 
@@ -51,37 +38,33 @@ fn row_in(bytes: &[u8]) -> Row
 
 /// Tag `i` as it stands in the bytes, counted from 0.
 fn tag_in<S: Seal>(bytes: &[u8], i: usize) -> u64
-    requires { (i < count_in bytes.now) × ((count_in bytes.now ≤ 4) × (packet_length S.Seal.wide (count_in bytes.now) ≤ length bytes.now)) }
-    ensures { result ≡ tag_in S.Seal.wide bytes.now i }
+    requires { (i < count_in bytes.now) × Whole S.WIDTH bytes.now }
+    ensures { result ≡ tag_in S.WIDTH bytes.now i }
 {
-    let k = bytes[1] as usize;
-    let w = S::tag_width();
-    number_at(bytes, HEADER_LEN + k + i * w, w)
+    let at = HEADER_LEN + bytes[1] as usize + i * S::WIDTH;
+    number(&bytes[at..at + S::WIDTH])
 }
 
-/// The tags as they stand in the bytes.
+/// The tags as they stand in the bytes, and zeros behind them.
 fn tags_in<S: Seal>(bytes: &[u8]) -> [u64; 4]
-    requires { (count_in bytes.now ≤ 4) × (packet_length S.Seal.wide (count_in bytes.now) ≤ length bytes.now) }
-    ensures { take (count_in bytes.now) result ≡ tags_in S.Seal.wide bytes.now (count_in bytes.now) }
+    requires { Whole S.WIDTH bytes.now }
+    ensures { take (count_in bytes.now) result ≡ tags_in S.WIDTH bytes.now (count_in bytes.now) }
 {
-    let mut tags = [0; 4];
-    for i in 0..bytes[1] as usize {
-        tags[i] = tag_in::<S>(bytes, i);
-    }
-    tags
+    let k = bytes[1] as usize;
+    array::from_fn(|i| if i < k { tag_in::<S>(bytes, i) } else { 0 })
 }
 
 /// The packet that stands in the bytes.
 fn packet_in<S: Seal>(bytes: &[u8]) -> Packet
-    requires { (count_in bytes.now ≤ 4) × (packet_length S.Seal.wide (count_in bytes.now) ≤ length bytes.now) }
-    ensures is { parts result ≡ parts_in S.Seal.wide bytes.now }
+    requires { Whole S.WIDTH bytes.now }
+    ensures is { parts result ≡ parts_in S.WIDTH bytes.now }
     ensures row { RowRead bytes.now result.row }
     ensures len { result.row.len ≤ 4 }
-    ensures form { encode S.Seal.wide (parts result) ≡ take (packet_length S.Seal.wide (count_in bytes.now)) bytes.now }
-    ensures alone { packet_length S.Seal.wide (count_in bytes.now) ≡ length bytes.now → OneForm S.Seal.wide bytes.now (parts result) }
+    ensures form { encode S.WIDTH (parts result) ≡ take (packet_length S.WIDTH (count_in bytes.now)) bytes.now }
+    ensures alone { packet_length S.WIDTH (count_in bytes.now) ≡ length bytes.now → OneForm S.WIDTH bytes.now (parts result) }
 {
     Packet {
-        header: header_in(bytes),
+        header: Header::read(bytes),
         row: row_in(bytes),
         tags: tags_in::<S>(bytes),
     }
@@ -90,15 +73,15 @@ fn packet_in<S: Seal>(bytes: &[u8]) -> Packet
 /// Reads one packet at the front of some bytes, and says how many of them it takes. Refuses fewer than 15 bytes, then a
 /// path length that is not 1 to 4, then fewer bytes than that path needs. Nothing is changed.
 pub fn read_front<S: Seal>(bytes: &[u8]) -> Result<Front, Malformed>
-    ensures is { front_parts result ≡ decode_front S.Seal.wide bytes.now }
-    ensures form { FrontForm S.Seal.wide bytes.now (front_parts result) }
+    ensures is { front_parts result ≡ decode_front S.WIDTH bytes.now }
+    ensures form { FrontForm S.WIDTH bytes.now (front_parts result) }
     ensures within { FrontWithin bytes.now result }
 {
     if bytes.len() < HEADER_LEN + 1 {
         return Err(Malformed::TooShort);
     }
     let k = bytes[1] as usize;
-    if k < 1 || k > LONGEST {
+    if !(1..=LONGEST).contains(&k) {
         return Err(Malformed::PathLength);
     }
     let used = length_with::<S>(k);
@@ -114,8 +97,8 @@ pub fn read_front<S: Seal>(bytes: &[u8]) -> Result<Front, Malformed>
 /// Reads bytes that are one packet. Refuses what `read_front` refuses, and bytes that go on after the packet. Nothing is
 /// changed.
 pub fn read<S: Seal>(bytes: &[u8]) -> Result<Packet, Malformed>
-    ensures is { read_parts result ≡ decode S.Seal.wide bytes.now }
-    ensures form { ReadForm S.Seal.wide bytes.now (read_parts result) }
+    ensures is { read_parts result ≡ decode S.WIDTH bytes.now }
+    ensures form { ReadForm S.WIDTH bytes.now (read_parts result) }
     ensures within { ReadWithin bytes.now result }
 {
     let front = read_front::<S>(bytes)?;

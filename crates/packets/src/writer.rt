@@ -7,45 +7,43 @@ ghost use Rattle.packets.specs.Tags.{sealed_parts};
 ghost use Rattle.paths.specs.Paths.{stations};
 
 use crate::bytes::{put_bytes, put_number};
-use crate::header::Header;
-use crate::tags::{HEADER_LEN, put_header, tag_for};
+use crate::header::{HEADER_LEN, Header};
+use crate::unsealed::Unsealed;
 use paths::{LONGEST, Path};
 use seals::Seal;
 
 /// The length of a packet with a path of `k` stations.
 pub(crate) fn length_with<S: Seal>(k: usize) -> usize
     requires { k ≤ 4 }
-    ensures { result ≡ packet_length S.Seal.wide k }
+    ensures { result ≡ packet_length S.WIDTH k }
 {
-    HEADER_LEN + k * (1 + S::tag_width())
+    HEADER_LEN + k * (1 + S::WIDTH)
 }
 
 /// How many bytes a packet takes whose path names that many stations; none if no path does.
 pub fn packet_length<S: Seal>(stations: usize) -> Option<usize>
-    ensures { result ≡ length_for S.Seal.wide stations }
+    ensures { result ≡ length_for S.WIDTH stations }
 {
-    if stations < 1 || stations > LONGEST {
+    if !(1..=LONGEST).contains(&stations) {
         return None;
     }
     Some(length_with::<S>(stations))
 }
 
-/// Writes a packet where there is room for it.
-fn put<S: Seal>(seal: &S, header: Header, path: &[u8], out: &mut [u8], at: usize)
-    requires low { 1 ≤ length path.now }
-    requires short { length path.now ≤ 4 }
-    requires room { at + packet_length S.Seal.wide (length path.now) ≤ length out.old }
-    ensures bytes { out.new ≡ over out.old at (encode S.Seal.wide (sealed_parts (S.Seal.meaning seal.now) header path.now)) }
-    ensures back { ReadsBack S.Seal.wide (S.Seal.meaning seal.now) header path.now }
-    ensures stands { Stands S.Seal.wide (sealed_parts (S.Seal.meaning seal.now) header path.now) at out.new }
-{
-    let k = path.len();
-    let w = S::tag_width();
-    put_header(out, at, header, k as u8);
-    put_bytes(out, at + HEADER_LEN, path);
-    for i in 0..path.len() {
-        let tag = tag_for(seal, header, path, i);
-        put_number(out, at + HEADER_LEN + k + i * w, w, tag);
+impl Unsealed<'_> {
+    /// Writes the packet, with all tags, where there is room for it.
+    fn put<S: Seal>(&self, seal: &S, out: &mut [u8], at: usize)
+        requires { at + packet_length S.WIDTH (length self.now.stations.now) ≤ length out.old }
+        ensures { out.new ≡ over out.old at (encode S.WIDTH (sealed_parts (S.meaning seal.now) self.now.header self.now.stations.now)) }
+    {
+        let k = self.stations.len();
+        put_bytes(out, at, &self.header.bytes(k as u8));
+        put_bytes(out, at + HEADER_LEN, self.stations);
+        let mut end = at + HEADER_LEN + k;
+        for tag in &self.tags(seal)[..k] {
+            put_number(out, end, S::WIDTH, *tag);
+            end += S::WIDTH;
+        }
     }
 }
 
@@ -58,15 +56,16 @@ pub fn write<S: Seal>(
     out: &mut [u8],
     at: usize,
 ) -> Option<usize>
-    ensures placed { (result, out.new) ≡ placed S.Seal.wide (sealed_parts (S.Seal.meaning seal.now) header (stations path.now)) at out.old }
-    ensures back { WrittenBack S.Seal.wide (S.Seal.meaning seal.now) header (stations path.now) at out.new result }
+    ensures placed { (result, out.new) ≡ placed S.WIDTH (sealed_parts (S.meaning seal.now) header (stations path.now)) at out.old }
+    ensures back { WrittenBack S.WIDTH (S.meaning seal.now) header (stations path.now) at out.new result }
     ensures within { WrittenWithin at out.old result }
 {
     let stations = path.stations();
+    let unsealed = Unsealed { header, stations };
     let n = length_with::<S>(stations.len());
     if n > out.len() || at > out.len() - n {
         return None;
     }
-    put(seal, header, stations, out, at);
+    unsealed.put(seal, out, at);
     Some(n)
 }

@@ -1,4 +1,4 @@
-use Rattle.std.proofs.Common.{◌≡◌, ℕ, ◌-◌, List, [], ◌∷◌, ◌++◌, length, drop, ap, ◌∙◌, arith}
+use Rattle.std.proofs.Common.{ℕ, List, [], ◌∷◌, ◌++◌, length, drop, ap, ◌∙◌}
 use Rattle.std.proofs.lemmas.List.{take_at}
 use Rattle.packets.proofs.reader.four.Goals as goal
 
@@ -7,8 +7,7 @@ returns c =
     let part = c.args.part.now in
     let zeros : List ℕ = 0 ∷ 0 ∷ 0 ∷ 0 ∷ [] in
     let is = c.copy_from_slice.ensures.after in
-    let all : length part - 0 ≡ length part = omega arith in
     record {
-      is = ap (λ xs. xs ++ drop (length part - 0) zeros) is ∙ ap (λ n. part ++ drop n zeros) all;
+      is = ap (λ xs. xs ++ drop (length part) zeros) is;
       front = take_at c.copy_from_slice.new.self _ (length part) (ap length is) ∙ is;
     }

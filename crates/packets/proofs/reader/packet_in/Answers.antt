@@ -11,8 +11,8 @@ pub returns : goal.returns
 unfolding RowRead
 returns g c =
     let b = c.args.bytes.now in
-    let w = g.S.Seal.wide in
+    let w = g.S.Seal.WIDTH in
     let bytes : Bytes b = All-from_get_or (λ x. x < 256) b 0 (λ i l. (c.type_inv.bytes i).fits) in
     let count = ap (λ r. r.len) c.row_in.ensures.is in
-    let is = packet-is w b c.header_in.result c.row_in.result c.tags_in.result c.header_in.ensures count c.row_in.ensures.path c.tags_in.ensures in
+    let is = packet-is w b c.read.result c.row_in.result c.tags_in.result c.read.ensures count c.row_in.ensures.path c.tags_in.ensures in
     record { is = is; row = c.row_in.ensures.is; len = omega (arith, c.requires, count); form = ap (encode w) is ∙ form_in w b bytes c.requires.1; alone = λ all. subst (OneForm w b) (sym is) (one_form w b bytes all) }
