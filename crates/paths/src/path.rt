@@ -1,4 +1,4 @@
-ghost use Rattle.std.specs.Prelude.{◌≡◌, ◌↔◌, true, false, [], ◌∷◌, length, take, nat_eq, IsTrue, IsErrOf};
+ghost use Rattle.std.specs.Prelude.{◌≡◌, ◌==◌, ◌↔◌, true, false, [], ◌∷◌, length, take, IsTrue, IsErrOf};
 ghost use Rattle.std.specs.Cmp.{partial_order_from_own_ties};
 ghost use Rattle.std.specs.Cmp.Lexicographic.{pointwise};
 ghost use Rattle.std.specs.Cmp.Rules.{comparing};
@@ -14,6 +14,7 @@ use std::fmt;
 
 /// A path: the stations that a packet has passed. They are one to four, no station is named twice, and `first` is the
 /// first of them.
+// A length beside an array, since library crates have no heap.
 #[derive(Clone, Copy, Debug)]
 pub struct Path {
     numbers: [u8; LONGEST],
@@ -30,7 +31,7 @@ pub struct Path {
 pub enum NotAPath {
     /// Its length is not 1 to 4.
     Length,
-    /// Its length is, and it names a station twice.
+    /// Its length is 1 to 4, and it names a station twice.
     StationTwice,
 }
 
@@ -62,9 +63,8 @@ impl TryFrom<Row> for Path {
 
     ghost try_from_gives = { IsPathIn };
 
-    /// The path in a row. The length is looked at first.
+    /// The path in a row. Its length is looked at first.
     fn try_from(row: Row) -> Result<Path, NotAPath>
-        ensures gives { IsPathIn row result }
         ensures path { stations_in (result_ok result) ≡ path_in row }
         ensures length { IsErrOf result NotAPath.Length ↔ ¬ (IsPathLength row.len) }
         ensures twice { IsErrOf result NotAPath.StationTwice ↔ (IsPathLength row.len × (distinct (row_stations row) ≡ false)) }
@@ -173,12 +173,12 @@ impl Path {
 impl PartialEq for Path {
     ghost use Rattle.paths.specs.Paths.{stations};
 
-    ghost eq = { on stations (pointwise nat_eq) };
+    ghost eq = { on stations (pointwise ◌==◌) };
 
     ghost laws = { Prim.search (comparing, rules) };
 
     fn eq(&self, other: &Path) -> bool
-        ensures is { result ≡ on stations (pointwise nat_eq) self.now other.now }
+        ensures is { result ≡ pointwise ◌==◌ (stations self.now) (stations other.now) }
         ensures same { IsTrue result ↔ (stations self.now ≡ stations other.now) }
     {
         self.stations() == other.stations()

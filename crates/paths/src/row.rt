@@ -5,7 +5,7 @@ ghost use Rattle.paths.specs.Paths.{row_stations};
 pub const LONGEST: usize = 4;
 
 /// Station numbers as they were read: the first `len` of `numbers`. Nothing else is known of them.
-// A length beside an array, since rows are kept in tables of fixed memory.
+// A length beside an array, since library crates have no heap and a row outlives the bytes that it was read from.
 #[derive(Clone, Copy, Debug)]
 pub struct Row {
     pub numbers: [u8; LONGEST],
