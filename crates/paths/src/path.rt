@@ -127,7 +127,7 @@ impl Path {
         ensures is { result ≡ length (stations self.now) }
         ensures few { IsPathLength result }
     {
-        self.stations().len()
+        self.len
     }
 
     /// The sender.
