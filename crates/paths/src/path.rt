@@ -178,8 +178,7 @@ impl PartialEq for Path {
     ghost laws = { Prim.search (comparing, rules) };
 
     fn eq(&self, other: &Path) -> bool
-        ensures is { result ≡ pointwise ◌==◌ (stations self.now) (stations other.now) }
-        ensures same { IsTrue result ↔ (stations self.now ≡ stations other.now) }
+        ensures { IsTrue result ↔ (stations self.now ≡ stations other.now) }
     {
         self.stations() == other.stations()
     }
