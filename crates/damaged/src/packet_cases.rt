@@ -145,7 +145,7 @@ impl Expected {
             numbers: [0, 1, 2, 3],
             len: self.stations,
         };
-        Path::new(row).unwrap_or(Path::start(0))
+        Path::try_from(row).unwrap_or(Path::start(0))
     }
 
     /// What is expected of the reads with each byte changed: none is accepted.

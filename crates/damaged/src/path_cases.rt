@@ -1,5 +1,5 @@
 use crate::tally::{Case, Outcome, Tally};
-use paths::{Path, Row};
+use paths::{NotAPath, Path, Row};
 use std::cmp::Ordering;
 use std::io;
 
@@ -29,17 +29,21 @@ fn found(name: &'static str, expected: bool, got: Option<Path>) -> Case {
 fn rows() -> [Case; 5] {
     let numbers = [0, 1, 2, 3];
     [
-        found("(0, 1)", true, Path::new(row(numbers, 2))),
-        found("(0, 1, 2, 3)", true, Path::new(row(numbers, 4))),
-        found("(0, 1, 0)", false, Path::new(row([0, 1, 0, 3], 3))),
-        found("of length 0", false, Path::new(row(numbers, 0))),
-        found("of length 5", false, Path::new(row(numbers, 5))),
+        found("(0, 1)", true, Path::try_from(row(numbers, 2)).ok()),
+        found("(0, 1, 2, 3)", true, Path::try_from(row(numbers, 4)).ok()),
+        found(
+            "(0, 1, 0)",
+            false,
+            Path::try_from(row([0, 1, 0, 3], 3)).ok(),
+        ),
+        found("of length 0", false, Path::try_from(row(numbers, 0)).ok()),
+        found("of length 5", false, Path::try_from(row(numbers, 5)).ok()),
     ]
 }
 
 /// The path in a row with one more station; none if there is no such path.
 fn extended(row: Row, station: u8) -> Option<Path> {
-    Path::new(row)?.with(station)
+    Path::try_from(row).ok()?.with(station)
 }
 
 /// Whether there is a path with one more station.
@@ -74,16 +78,16 @@ fn parts() -> [Case; 5] {
     ]
 }
 
-/// The order of the paths in two rows; none if one of them is no path.
-fn compared(a: Row, b: Row) -> Option<Ordering> {
-    Some(Path::new(a)?.compare(&Path::new(b)?))
+/// The order of the paths in two rows, or why one of them is no path.
+fn compared(a: Row, b: Row) -> Result<Ordering, NotAPath> {
+    Ok(Path::try_from(a)?.cmp(&Path::try_from(b)?))
 }
 
 /// One case of the order of the paths in two rows.
 fn order(name: &'static str, expected: Ordering, a: Row, b: Row) -> Case {
     let got = match compared(a, b) {
-        Some(order) => Outcome::Order(order),
-        None => Outcome::Path(false),
+        Ok(order) => Outcome::Order(order),
+        Err(_) => Outcome::Path(false),
     };
     Case {
         name,

@@ -24,7 +24,7 @@ impl Verdict {
     pub(crate) fn of<S: Seal>(seal: &S, bytes: &[u8]) -> Verdict {
         match read::<S>(bytes) {
             Err(malformed) => Verdict::refused(malformed),
-            Ok(packet) if Path::new(packet.row).is_none() => Verdict::Path,
+            Ok(packet) if Path::try_from(packet.row).is_err() => Verdict::Path,
             Ok(packet) if !packet.tags_hold(seal) => Verdict::Tag,
             Ok(_) => Verdict::Accepted,
         }

@@ -1,17 +1,22 @@
 -- Lists of station numbers.
-use Rattle.std.specs.Prelude.{ℕ, ◌-◌, Bool, true, false, cond, not, ◌&&◌, ◌||◌, List, [], ◌∷◌, ◌++◌, length, Some, None, Option, ◌==◌, nat_le, nat_lt, slice_index}
-use Rattle.std.specs.declared.cmp.Ordering.TheVariants.{Less, Equal, Greater}
+use Rattle.std.specs.Prelude.{ℕ, ◌-◌, ◌≤◌, Bool, true, cond, not, ◌&&◌, List, [], ◌∷◌, ◌++◌, length, Some, None, Option, ◌==◌, nat_le, slice_index}
+use Rattle.std.specs.Cmp.Lexicographic.{slice_cmp}
+use Rattle.std.specs.List.{list_any}
+use Rattle.std.specs.Ordering.{nat_cmp}
 use Rattle.std.specs.declared.cmp.Ordering.{Ordering}
 
 -- whether station q is named
 abbrev pub names : List ℕ → ℕ → Bool
-names [] q = false
-names (x ∷ xs) q = x == q || names xs q
+names t q = list_any (λ x. x == q) t
 
 -- whether no station is named twice
 abbrev pub distinct : List ℕ → Bool
 distinct [] = true
 distinct (x ∷ xs) = not (names xs x) && distinct xs
+
+-- how many stations a path names
+abbrev pub IsPathLength : ℕ → Type 0
+IsPathLength n = (1 ≤ n) × (n ≤ 4)
 
 -- whether the stations are those of a path: one to four, none named twice
 abbrev pub is_path : List ℕ → Bool
@@ -29,7 +34,4 @@ extended t q = cond (is_path (t ++ q ∷ [])) (Some (t ++ q ∷ [])) None
 
 -- the order of paths, station by station; where one begins with the other, the shorter comes first
 abbrev pub compared : List ℕ → List ℕ → Ordering
-compared [] [] = Equal
-compared [] (y ∷ ys) = Less
-compared (x ∷ xs) [] = Greater
-compared (x ∷ xs) (y ∷ ys) = cond (nat_lt x y) Less (cond (nat_lt y x) Greater (compared xs ys))
+compared = slice_cmp nat_cmp

@@ -1,25 +1,15 @@
-ghost use Rattle.std.specs.Prelude.{◌≡◌, min, length, take};
+ghost use Rattle.std.specs.Prelude.{◌≡◌, min, length};
 ghost use Rattle.paths.specs.Paths.{row_stations};
 
 /// The most stations that a path names.
 pub const LONGEST: usize = 4;
 
 /// Station numbers as they were read: the first `len` of `numbers`. Nothing else is known of them.
-#[derive(Clone, Copy)]
+// A length beside an array, since library crates have no heap and a row outlives the bytes that it was read from.
+#[derive(Clone, Copy, Debug)]
 pub struct Row {
-    pub numbers: [u8; 4],
+    pub numbers: [u8; LONGEST],
     pub len: usize,
-}
-
-/// The first `len` of some numbers, or all if they are fewer.
-fn front(numbers: &[u8], len: usize) -> &[u8]
-    ensures is { result.now ≡ take len numbers.now }
-    ensures count { length result.now ≡ min len (length numbers.now) }
-{
-    if len > numbers.len() {
-        return numbers;
-    }
-    &numbers[0..len]
 }
 
 impl Row {
@@ -28,6 +18,6 @@ impl Row {
         ensures is { result.now ≡ row_stations self.now }
         ensures count { length result.now ≡ min self.now.len 4 }
     {
-        front(&self.numbers, self.len)
+        &self.numbers[..self.len.min(LONGEST)]
     }
 }

@@ -1,6 +1,6 @@
 use crate::sent::Sent;
 use packets::{Header, Malformed, read};
-use paths::Path;
+use paths::{NotAPath, Path};
 use seals::Seal;
 use std::fmt;
 
@@ -34,15 +34,19 @@ impl fmt::Display for Refused {
     }
 }
 
+impl From<NotAPath> for Refused {
+    fn from(_why: NotAPath) -> Refused {
+        Refused::Path
+    }
+}
+
 /// Reads a packet and checks its path and its tags.
 pub(crate) fn receive<S: Seal>(seal: &S, bytes: &[u8]) -> Result<Heard, Refused> {
     let packet = match read::<S>(bytes) {
         Ok(packet) => packet,
         Err(malformed) => return Err(Refused::Bytes(malformed)),
     };
-    let Some(path) = Path::new(packet.row) else {
-        return Err(Refused::Path);
-    };
+    let path = Path::try_from(packet.row)?;
     if !packet.tags_hold(seal) {
         return Err(Refused::Tag);
     }
