@@ -1,10 +1,9 @@
 -- The packets of the worked example.
-use Rattle.std.proofs.Common.{◌≡◌, ℕ, ◌+◌, false, eqb, List, [], ◌∷◌, ◌++◌, length, Some, Option, sym, refl, ap, ◌∙◌, arith}
-use Rattle.paths.specs.Stations.{extended}
+use Rattle.std.proofs.Common.{◌≡◌, ℕ, ◌+◌, List, ◌++◌, length, Option, refl, ap, ◌∙◌, arith}
 use Rattle.seals.specs.CodeBooks.{book_tag}
-use Rattle.seals.specs.Worked.{count_from}
+use Rattle.seals.specs.Worked.{counting_words}
 use Rattle.std.proofs.lemmas.List.{append-nil, drop_all}
-use Rattle.std.proofs.lemmas.Bool.{cond-true, le-leb, ne_eqb}
+use Rattle.std.proofs.lemmas.Bool.{cond-true, le-leb}
 use Rattle.packets.specs.Bytes.{over}
 use Rattle.packets.specs.Form.{head_bytes, encode, packet_length}
 use Rattle.packets.specs.Tags.{sealed_parts}
@@ -21,15 +20,11 @@ over-whole : (xs ys : List ℕ) → length ys ≡ length xs → over xs 0 ys ≡
 unfolding over
 over-whole xs ys e = ap (λ us. ys ++ us) (drop_all (0 + length ys) xs (omega arith)) ∙ append-nil ys
 
--- the notice fills its buffer, as the code has its words and its path
-pub notice-written : (words t t' out new : List ℕ) (r : Option ℕ) → words ≡ count_from 0 1792 → t' ≡ t → length out ≡ packet_length 2 (length t)
-    → (r, new) ≡ placed 2 (sealed_parts (λ j m. book_tag words j m) notice t') 0 out → new ≡ encode 2 (notice_by t)
-notice-written words t t' out new r counting path room wrote =
+-- the notice fills its buffer
+pub notice-written : (words t out new : List ℕ) (r : Option ℕ) → words ≡ counting_words → length out ≡ packet_length 2 (length t)
+    → (r, new) ≡ placed 2 (sealed_parts (λ j m. book_tag words j m) notice t) 0 out → new ≡ encode 2 (notice_by t)
+notice-written words t out new r counting room wrote =
     let p = notice_by t in
     let long = encode-length 2 p (tags_for-length books notice t (length t)) in
-    let here : (r, new) ≡ placed 2 p 0 out = wrote ∙ ap (λ ws. placed 2 (sealed_parts (λ j m. book_tag ws j m) notice t') 0 out) counting ∙ ap (λ u. placed 2 (notice_by u) 0 out) path in
+    let here : (r, new) ≡ placed 2 p 0 out = wrote ∙ ap (λ ws. placed 2 (sealed_parts (λ j m. book_tag ws j m) notice t) 0 out) counting in
     ap (λ q. q.1) (here ∙ cond-true _ _ _ (le-leb (0 + packet_length 2 (length t)) (length out) (omega arith))) ∙ over-whole out (encode 2 p) (omega arith)
-
--- two stations that differ make a path
-pub two-stations : (a b : ℕ) → (a ≡ b → ⊥) → extended (a ∷ []) b ≡ Some (a ∷ b ∷ [])
-two-stations a b other = let e : eqb b a ≡ false = ne_eqb b a (λ e. other (sym e)) in rw e

@@ -1,7 +1,7 @@
 -- Two worked packets: notice 2 of sounding 1, level 1, under the code book in which word b of station j is 256 j + b.
 use Rattle.std.specs.Prelude.{◌≡◌, ℕ, true, false, List, [], ◌∷◌, Ok}
 use Rattle.seals.specs.CodeBooks.{book_tag}
-use Rattle.seals.specs.Worked.{count_from}
+use Rattle.seals.specs.Worked.{counting_words}
 use Rattle.packets.specs.declared.header.Header.{Header}
 use Rattle.packets.specs.Headers.{header_of}
 use Rattle.packets.specs.Form.{Parts, encode, parts_in}
@@ -12,7 +12,7 @@ abbrev pub notice : Header
 notice = header_of 2 1 1 2
 
 abbrev pub books : ℕ → List ℕ → ℕ
-books j m = book_tag (count_from 0 1792) j m
+books j m = book_tag counting_words j m
 
 -- as its stations make it
 abbrev pub notice_by : List ℕ → Parts

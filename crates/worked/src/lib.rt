@@ -3,4 +3,4 @@
 
 pub mod notices;
 
-pub use notices::worked_packets;
+pub use notices::{NOTICE, worked_packets};

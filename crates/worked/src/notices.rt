@@ -1,6 +1,7 @@
 //! A worked example: its packets are a theorem about the definitions, and what the code writes.
-ghost use Rattle.std.specs.Prelude.{◌≡◌, [], ◌∷◌, ◌≢◌};
-ghost use Rattle.packets.specs.Form.{encode};
+ghost use Rattle.std.specs.Prelude.{◌≡◌, ◌<◌, [], ◌∷◌, length};
+ghost use Rattle.paths.specs.Paths.{stations};
+ghost use Rattle.packets.specs.Form.{encode, packet_length};
 ghost use Rattle.worked.specs.Notices.{notice_by, sent_notice, relayed_notice, WorkedPackets};
 
 use packets::{Header, write};
@@ -8,41 +9,31 @@ use paths::Path;
 use seals::{CodeBook, counting_words};
 
 /// The notice of the example: burst, of sounding 1, level 1.
-const NOTICE: Header = Header {
+pub const NOTICE: Header = Header {
     kind: 2,
     sounding: 1,
     level: 1,
     value: 2,
 };
 
-/// The notice as its sender writes it.
-fn notice_sent(sender: u8) -> [u8; 17]
-    ensures is { result ≡ encode 2 (notice_by (sender ∷ [])) }
+/// The notice that has passed a path, under the books that count, in the bytes that it takes.
+fn notice_over<const N: usize>(path: &Path) -> [u8; N]
+    requires { N ≡ packet_length 2 (length (stations path.now)) }
+    ensures is { result ≡ encode 2 (notice_by (stations path.now)) }
     ensures rules { WorkedPackets }
 {
     let words = counting_words();
-    let mut out = [0; 17];
-    write(
-        &CodeBook::new(&words),
-        NOTICE,
-        &Path::start(sender),
-        &mut out,
-        0,
-    );
+    let mut out = [0; N];
+    write(&CodeBook::new(&words), NOTICE, path, &mut out, 0);
     out
 }
 
-/// The notice as another station relays it.
-fn notice_relayed(sender: u8, station: u8) -> [u8; 20]
-    requires { sender ≢ station }
-    ensures { result ≡ encode 2 (notice_by (sender ∷ station ∷ [])) }
+/// The path from station 0 by way of another.
+fn by_way_of(station: u8) -> Path
+    requires { 0 < station }
+    ensures { stations result ≡ 0 ∷ station ∷ [] }
 {
-    let words = counting_words();
-    let mut out = [0; 20];
-    if let Some(path) = Path::start(sender).with(station) {
-        write(&CodeBook::new(&words), NOTICE, &path, &mut out, 0);
-    }
-    out
+    Path::start(0).with(station).unwrap()
 }
 
 /// Two packets under the books that count: a notice as station 0 sends it, and that notice as station 1 relays it.
@@ -50,5 +41,7 @@ pub fn worked_packets() -> ([u8; 17], [u8; 20])
     ensures rules { WorkedPackets }
     ensures value { result ≡ (sent_notice, relayed_notice) }
 {
-    (notice_sent(0), notice_relayed(0, 1))
+    let sent = notice_over(&Path::start(0));
+    let relayed = notice_over(&by_way_of(1));
+    (sent, relayed)
 }

@@ -1,0 +1,14 @@
+use Rattle.std.proofs.Common.{◌∙◌}
+use Rattle.std.proofs.lemmas.List.{length-replicate}
+use Rattle.paths.specs.Paths.{stations}
+use Rattle.worked.proofs.Written.{worked, notice-written}
+use Rattle.worked.proofs.notices.notice_over.Goals as goal
+
+pub returns : goal.returns
+returns g c =
+    record {
+      is =
+          notice-written c.new.result.words.now (stations c.args.path.now) _ c.write.new.out c.write.result
+          (c.new.ensures ∙ c.counting_words-words.ensures) (length-replicate g.row.N 0 ∙ c.requires) c.write.ensures.placed;
+      rules = worked;
+    }
