@@ -15,6 +15,6 @@ pub mod sole;
 pub use choice::ChoiceRule;
 pub use kind::Kind;
 pub use majority::Majority;
-pub use notice::{Notice, Notices};
+pub use notice::{NotANotice, Notice, Notices};
 pub use reading::{Reading, Readings};
 pub use sole::Sole;
