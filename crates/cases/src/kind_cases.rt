@@ -22,7 +22,7 @@ pub(crate) fn run(tally: &mut Tally) -> io::Result<()> {
 
 /// Whether the kind allows a reading.
 fn reading(tally: &mut Tally, name: &str, allowed: bool, reading: Reading) -> io::Result<()> {
-    let got = Readings.allows(reading.to_bits());
+    let got = Readings.allows(u64::from(reading));
     tally.case(
         "reading,",
         name,
@@ -80,9 +80,9 @@ fn bits(tally: &mut Tally) -> io::Result<()> {
         "reading,",
         "lowest, bits",
         0xffff_fe0c_0001_fc18,
-        lowest.to_bits(),
+        u64::from(lowest),
     )?;
-    let again = Reading::from_bits(0x8000_0000_ffff_8000).to_bits();
+    let again = u64::from(Reading::from(0x8000_0000_ffff_8000));
     tally.bits("reading,", "of bits, bits", 0x8000_0000_ffff_8000, again)
 }
 
@@ -92,7 +92,7 @@ fn notices(tally: &mut Tally) -> io::Result<()> {
     notice(tally, "4", true, 4)?;
     notice(tally, "5", false, 5)?;
     notice(tally, "2^64 - 1", false, u64::MAX)?;
-    tally.bits("notice", "burst, bits", 2, Notice::Burst.to_bits())
+    tally.bits("notice", "burst, bits", 2, u64::from(Notice::Burst))
 }
 
 /// Whether the kind allows a notice.

@@ -9,7 +9,7 @@ pub(crate) fn tell(rt: &HostRuntime, value: u64) -> io::Result<()> {
         pressure: 3000,
         temperature: 446,
     };
-    let reports = [Some(value), Some(value), None, Some(other.to_bits())];
+    let reports = [Some(value), Some(value), None, Some(u64::from(other))];
     for (i, report) in reports.iter().enumerate() {
         let shown = show::Report(*report);
         println!(rt; "  station {}: {shown}", i.saturating_add(1))?;

@@ -33,7 +33,7 @@ fn take_reading(rt: &HostRuntime) -> io::Result<Header> {
         pressure: 3000,
         temperature: -446,
     };
-    let value = reading.to_bits();
+    let value = u64::from(reading);
     let kind = Readings;
     let shown = show::Shown(reading);
     println!(rt; "The reading")?;

@@ -45,7 +45,7 @@ impl fmt::Display for Report {
     fn fmt<W: fmt::Write>(&self, f: &mut fmt::Formatter<W>) -> fmt::Result {
         match self.0 {
             Some(value) => {
-                let reading = Shown(Reading::from_bits(value));
+                let reading = Shown(Reading::from(value));
                 write!(f, "{value:016x}, {reading}")
             }
             None => write!(f, "none"),

@@ -37,7 +37,7 @@ fn main(rt: HostRuntime) -> io::Result<()> {
         kind: Readings.number(),
         sounding: 1,
         level: 7,
-        value: reading.to_bits(),
+        value: u64::from(reading),
     };
     println!(rt; "\nRelayed under SipHash-2-4")?;
     relaying::tell(&rt, &SipKeys::new(bench_keys()), header)?;

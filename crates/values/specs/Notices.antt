@@ -1,5 +1,5 @@
 -- Notices: their numbers, and which values stand for one.
-use Rattle.std.specs.Prelude.{◌≡◌, ℕ, Bool, false, cond, is_some, Some, None, Option, ◌==◌}
+use Rattle.std.specs.Prelude.{◌≡◌, ℕ, Bool, false, if◌then◌else◌, is_some, Some, None, Option, ◌==◌}
 use Rattle.values.specs.declared.notice.Notice.{Notice}
 use Rattle.values.specs.declared.notice.Notice.TheVariants.{Released, Burst, Landed, Lost}
 
@@ -12,7 +12,11 @@ notice_bits Lost = 4
 -- the notice that a value stands for
 abbrev pub notice_of : ℕ → Option Notice
 notice_of v =
-    cond (v == 1) (Some Released) (cond (v == 2) (Some Burst) (cond (v == 3) (Some Landed) (cond (v == 4) (Some Lost) None)))
+    if v == 1 then Some Released
+    else if v == 2 then Some Burst
+    else if v == 3 then Some Landed
+    else if v == 4 then Some Lost
+    else None
 
 -- the kind allows the values that stand for a notice
 abbrev pub notice_allowed : ℕ → Bool

@@ -1,20 +1,19 @@
 -- Level readings: their 64 bits, and which are allowed.
 use Rattle.std.specs.Prelude.{ℕ, ◌+◌, ◌*◌, ◌/◌, ◌%◌, ◌^◌, Bool, ◌&&◌, pos, negsuc, int_le, nat_le}
-use Rattle.std.specs.Int.{w16, w32}
-use Rattle.std.proofs.Common.{to_z, of_z}
+use Rattle.std.specs.Int.{w16, w32, cast_unsigned, cast_signed}
 use Rattle.values.specs.declared.reading.Reading.{Reading}
 
 -- the 64 bits of a reading, from the high end down: 32 for the height, 16 each for pressure and temperature;
 -- height and temperature are signed, in two's complement
 abbrev pub reading_bits : Reading → ℕ
-reading_bits r = of_z w32 r.height * 2 ^ 32 + r.pressure * 2 ^ 16 + of_z w16 r.temperature
+reading_bits r = cast_unsigned w32 r.height * 2 ^ 32 + r.pressure * 2 ^ 16 + cast_unsigned w16 r.temperature
 
 -- the reading that 64 bits stand for
 abbrev pub reading_of : ℕ → Reading
 reading_of v = record {
-  height = to_z w32 (v / 2 ^ 32);
+  height = cast_signed w32 (v / 2 ^ 32);
   pressure = v / 2 ^ 16 % 2 ^ 16;
-  temperature = to_z w16 (v % 2 ^ 16);
+  temperature = cast_signed w16 (v % 2 ^ 16);
 }
 
 -- −500 to 50,000 metres, 1 to 11,000 tenths of hPa, −1,000 to 600 tenths of a degree Celsius

@@ -1,48 +1,67 @@
-ghost use Rattle.std.specs.Prelude.{◌≡◌, Some, MatchOption};
+ghost use Rattle.std.specs.Prelude.{◌≡◌, Some, IfErr};
+ghost use Rattle.std.specs.Result.{result_ok};
 ghost use Rattle.values.specs.Notices.{notice_bits, notice_of, notice_allowed, IsNotice};
 ghost use Rattle.std.proofs.Common.{lit≤};
 
 use crate::kind::Kind;
+use std::error::Error;
+use std::fmt;
 
 /// What became of the balloon.
 #[derive(Clone, Copy, PartialEq, Eq, Debug)]
 pub enum Notice {
     /// It left the ground: value 1.
-    Released,
+    Released = 1,
     /// It burst at its greatest height: value 2.
-    Burst,
+    Burst = 2,
     /// The sonde is on the ground: value 3.
-    Landed,
+    Landed = 3,
     /// Nothing more is heard of it: value 4.
-    Lost,
+    Lost = 4,
 }
 
-impl Notice {
-    /// The notice that a value of 64 bits stands for, or `None`. `to_bits` gives the value back.
-    pub fn from_bits(bits: u64) -> Option<Notice>
-        ensures value { result ≡ notice_of bits }
-        ensures inverse { IsNotice bits result }
+/// A value of 64 bits that stands for no notice.
+#[derive(Clone, Copy, PartialEq, Eq, Debug)]
+pub struct NotANotice(pub u64);
+
+impl fmt::Display for NotANotice {
+    fn fmt<W: fmt::Write>(&self, f: &mut fmt::Formatter<W>) -> fmt::Result {
+        write!(f, "{} stands for no notice", self.0)
+    }
+}
+
+impl Error for NotANotice {}
+
+impl TryFrom<u64> for Notice {
+    type Error = NotANotice;
+
+    ghost try_from_gives = { λ bits r. (result_ok r ≡ notice_of bits) × IsNotice bits (result_ok r) × IfErr r (λ e. e.0 ≡ bits) };
+
+    /// The notice that a value of 64 bits stands for. `u64::from` gives the value back.
+    fn try_from(bits: u64) -> Result<Notice, NotANotice>
+        ensures value { result_ok result ≡ notice_of bits }
+        ensures inverse { IsNotice bits (result_ok result) }
+        ensures unknown { IfErr result (λ e. e.0 ≡ bits) }
     {
         match bits {
-            1 => Some(Notice::Released),
-            2 => Some(Notice::Burst),
-            3 => Some(Notice::Landed),
-            4 => Some(Notice::Lost),
-            _ => None,
+            1 => Ok(Notice::Released),
+            2 => Ok(Notice::Burst),
+            3 => Ok(Notice::Landed),
+            4 => Ok(Notice::Lost),
+            _ => Err(NotANotice(bits)),
         }
     }
+}
 
-    /// The value of 64 bits that stands for this notice. `from_bits` gives the notice back.
-    pub fn to_bits(self) -> u64
-        ensures value { result ≡ notice_bits self }
-        ensures inverse { notice_of result ≡ Some self }
+impl From<Notice> for u64 {
+    ghost from_gives = { λ notice bits. (bits ≡ notice_bits notice) × (notice_of bits ≡ Some notice) };
+
+    /// The value of 64 bits that stands for this notice. `Notice::try_from` gives the notice back.
+    fn from(notice: Notice) -> u64
+        ensures value { result ≡ notice_bits notice }
+        ensures inverse { notice_of result ≡ Some notice }
     {
-        match self {
-            Notice::Released => 1,
-            Notice::Burst => 2,
-            Notice::Landed => 3,
-            Notice::Lost => 4,
-        }
+        notice as u64
     }
 }
 
@@ -69,6 +88,6 @@ impl Kind for Notices {
     }
 
     fn allows(&self, value: u64) -> bool {
-        Notice::from_bits(value).is_some()
+        Notice::try_from(value).is_ok()
     }
 }

@@ -1,6 +1,5 @@
-ghost use Rattle.std.specs.Prelude.{◌≡◌, ◌+◌, ◌*◌, ◌/◌, ◌%◌, ◌^◌};
-ghost use Rattle.std.specs.Int.{w16, w32};
-ghost use Rattle.std.proofs.Common.{to_z, of_z, lit≤};
+ghost use Rattle.std.specs.Prelude.{◌≡◌};
+ghost use Rattle.std.proofs.Common.{lit≤};
 ghost use Rattle.values.specs.Readings.{reading_bits, reading_of, in_range, reading_allowed};
 
 use crate::kind::Kind;
@@ -16,75 +15,45 @@ pub struct Reading {
     pub temperature: i16,
 }
 
-/// The three fields of 64 bits, from the high end down.
-fn split(bits: u64) -> (u32, u16, u16)
-    ensures value { result ≡ (bits / 2 ^ 32, bits / 2 ^ 16 % 2 ^ 16, bits % 2 ^ 16) }
-    ensures inverse { result.0 * 2 ^ 32 + result.1 * 2 ^ 16 + result.2 ≡ bits }
-{
-    let high = (bits >> 32) as u32;
-    let middle = ((bits >> 16) % 0x1_0000) as u16;
-    let low = (bits % 0x1_0000) as u16;
-    (high, middle, low)
-}
+impl From<u64> for Reading {
+    ghost from_gives = { λ bits reading. (reading ≡ reading_of bits) × (reading_bits reading ≡ bits) };
 
-/// The number that a word of 32 bits stands for in two's complement.
-fn signed_32(bits: u32) -> i32
-    ensures value { result ≡ to_z w32 bits }
-    ensures inverse { of_z w32 result ≡ bits }
-{
-    bits.cast_signed()
-}
-
-/// The number that a word of 16 bits stands for in two's complement.
-fn signed_16(bits: u16) -> i16
-    ensures value { result ≡ to_z w16 bits }
-    ensures inverse { of_z w16 result ≡ bits }
-{
-    bits.cast_signed()
-}
-
-/// Three fields as 64 bits, from the high end down.
-fn join(high: u32, middle: u16, low: u16) -> u64
-    ensures value { result ≡ high * 2 ^ 32 + middle * 2 ^ 16 + low }
-    ensures inverse { (result / 2 ^ 32 ≡ high) × (result / 2 ^ 16 % 2 ^ 16 ≡ middle) × (result % 2 ^ 16 ≡ low) }
-{
-    (u64::from(high) << 32) + (u64::from(middle) << 16) + u64::from(low)
-}
-
-impl Reading {
-    /// The reading that a value of 64 bits stands for, allowed or not. `to_bits` gives the value back.
-    pub fn from_bits(bits: u64) -> Reading
+    /// The reading that a value of 64 bits stands for, allowed or not. `u64::from` gives the value back.
+    fn from(bits: u64) -> Reading
         ensures value { result ≡ reading_of bits }
         ensures inverse { reading_bits result ≡ bits }
     {
-        let (height, pressure, temperature) = split(bits);
         Reading {
-            height: signed_32(height),
-            pressure,
-            temperature: signed_16(temperature),
+            height: ((bits >> 32) as u32).cast_signed(),
+            pressure: ((bits >> 16) & 0xffff) as u16,
+            temperature: ((bits & 0xffff) as u16).cast_signed(),
         }
     }
+}
 
-    /// The value of 64 bits that stands for this reading. `from_bits` gives the reading back.
-    pub fn to_bits(self) -> u64
-        ensures value { result ≡ reading_bits self }
-        ensures inverse { reading_of result ≡ self }
+impl From<Reading> for u64 {
+    ghost from_gives = { λ reading bits. (bits ≡ reading_bits reading) × (reading_of bits ≡ reading) };
+
+    /// The value of 64 bits that stands for this reading. `Reading::from` gives the reading back.
+    fn from(reading: Reading) -> u64
+        ensures value { result ≡ reading_bits reading }
+        ensures inverse { reading_of result ≡ reading }
     {
-        let height = self.height.cast_unsigned();
-        let temperature = self.temperature.cast_unsigned();
-        join(height, self.pressure, temperature)
+        let height = u64::from(reading.height.cast_unsigned());
+        let pressure = u64::from(reading.pressure);
+        let temperature = u64::from(reading.temperature.cast_unsigned());
+        (height << 32) + (pressure << 16) + temperature
     }
+}
 
+impl Reading {
     /// Whether height, pressure and temperature are all within their limits.
     pub fn is_in_range(&self) -> bool
         ensures { result ≡ in_range self.now }
     {
-        -500 <= self.height
-            && self.height <= 50_000
-            && 1 <= self.pressure
-            && self.pressure <= 11_000
-            && -1_000 <= self.temperature
-            && self.temperature <= 600
+        (-500..=50_000).contains(&self.height)
+            && (1..=11_000).contains(&self.pressure)
+            && (-1_000..=600).contains(&self.temperature)
     }
 }
 
@@ -111,6 +80,6 @@ impl Kind for Readings {
     }
 
     fn allows(&self, value: u64) -> bool {
-        Reading::from_bits(value).is_in_range()
+        Reading::from(value).is_in_range()
     }
 }

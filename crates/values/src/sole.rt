@@ -1,5 +1,5 @@
-ghost use Rattle.std.specs.Prelude.{◌≡◌, ℕ, Some};
-ghost use Rattle.values.specs.Reports.{first_value, agree, sole_of, sole, Only, Exactly};
+ghost use Rattle.std.specs.Prelude.{◌≡◌};
+ghost use Rattle.values.specs.Reports.{first_value, agree, sole, Only, Exactly};
 ghost use Rattle.values.specs.Soles.{sole-silent, only-sole};
 
 use crate::choice::ChoiceRule;
@@ -12,44 +12,14 @@ pub struct Sole;
 fn first_value(reports: &[Option<u64>]) -> Option<u64>
     ensures { result ≡ first_value reports.now }
 {
-    for report in reports {
-        if let Some(v) = report {
-            return Some(*v);
-        }
-    }
-    None
+    reports.iter().copied().flatten().next()
 }
 
 /// Whether every report that is a value is `value`.
 fn all_are(reports: &[Option<u64>], value: u64) -> bool
     ensures { result ≡ agree value reports.now }
 {
-    for report in reports {
-        if let Some(v) = report {
-            if *v != value {
-                return false;
-            }
-        }
-    }
-    true
-}
-
-/// The first value, if every value is that one.
-fn unless_others(first: Option<u64>, reports: &[Option<u64>]) -> Option<u64>
-    ensures { result ≡ sole_of first reports.now }
-{
-    match first {
-        Some(v) => if all_are(reports, v) { Some(v) } else { None },
-        None => None,
-    }
-}
-
-/// The value if there is exactly one distinct value.
-fn sole_value(reports: &[Option<u64>]) -> Option<u64>
-    ensures value { result ≡ sole reports.now }
-    ensures exact { Exactly result (λ v. Only v reports.now) }
-{
-    unless_others(first_value(reports), reports)
+    reports.iter().copied().flatten().all(|v| v == value)
 }
 
 impl ChoiceRule for Sole {
@@ -59,10 +29,12 @@ impl ChoiceRule for Sole {
 
     ghost unanimous = { λ c. only-sole };
 
+    #[tactic(auto, using(crate::proofs::SoleLemmas::exactness))]
     fn choose(&self, reports: &[Option<u64>]) -> Option<u64>
         ensures value { result ≡ sole reports.now }
         ensures exact { Exactly result (λ v. Only v reports.now) }
     {
-        sole_value(reports)
+        let first = first_value(reports)?;
+        all_are(reports, first).then_some(first)
     }
 }
