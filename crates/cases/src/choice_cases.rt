@@ -1,9 +1,10 @@
-use crate::tally::{Outcome, Tally};
+use crate::outcome::Choice;
+use console::Tally;
 use std::io;
 use values::{ChoiceRule, Majority, Sole};
 
 /// Both rules on lists of reports.
-pub(crate) fn run(tally: &mut Tally) -> io::Result<()> {
+pub(crate) fn run<P: Print>(tally: &mut Tally<P>) -> io::Result<()> {
     both(tally, "()", &[], None, None)?;
     both(tally, "(none, none)", &[None, None], None, None)?;
     both(tally, "(none, 7)", &[None, Some(7)], Some(7), Some(7))?;
@@ -17,29 +18,15 @@ pub(crate) fn run(tally: &mut Tally) -> io::Result<()> {
 }
 
 /// What the sole and the majority rule give for a list.
-fn both(
-    tally: &mut Tally,
+fn both<P: Print>(
+    tally: &mut Tally<P>,
     list: &str,
     reports: &[Option<u64>],
     sole: Option<u64>,
     majority: Option<u64>,
 ) -> io::Result<()> {
-    choice(tally, "sole value of", list, sole, Sole.choose(reports))?;
-    choice(
-        tally,
-        "majority of",
-        list,
-        majority,
-        Majority.choose(reports),
-    )
-}
-
-fn choice(
-    tally: &mut Tally,
-    rule: &str,
-    list: &str,
-    expected: Option<u64>,
-    got: Option<u64>,
-) -> io::Result<()> {
-    tally.case(rule, list, Outcome::Choice(expected), Outcome::Choice(got))
+    let got = Choice(Sole.choose(reports));
+    tally.case("sole value of", list, Choice(sole), got)?;
+    let got = Choice(Majority.choose(reports));
+    tally.case("majority of", list, Choice(majority), got)
 }

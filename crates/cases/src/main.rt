@@ -3,21 +3,22 @@
 #![tactic(auto)]
 
 mod choice_cases;
-mod counts;
 mod kind_cases;
+mod outcome;
 mod seal_cases;
-mod tally;
 mod vectors;
 
-use tally::Tally;
+use console::Tally;
+use std::rt::Files;
 
-fn run(rt: &HostRuntime) -> anyhow::Result<()> {
+fn run(rt: &(impl Files + Alloc + Print)) -> anyhow::Result<()> {
     let mut tally = Tally::new(rt);
     vectors::run(rt, &mut tally)?;
     seal_cases::run(&mut tally)?;
     kind_cases::run(&mut tally)?;
     choice_cases::run(&mut tally)?;
-    tally.close()
+    tally.close()?;
+    Ok(())
 }
 
 fn main(rt: HostRuntime) -> anyhow::Result<()> {

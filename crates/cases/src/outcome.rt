@@ -1,0 +1,35 @@
+//! What came of a case, as it is shown.
+use std::fmt;
+
+/// A number, in hexadecimal.
+#[derive(Clone, Copy, PartialEq, Eq)]
+pub struct Bits(pub u64);
+
+impl fmt::Display for Bits {
+    fn fmt<W: fmt::Write>(&self, f: &mut fmt::Formatter<W>) -> fmt::Result {
+        write!(f, "{:x}", self.0)
+    }
+}
+
+/// Whether a value is allowed.
+#[derive(Clone, Copy, PartialEq, Eq)]
+pub struct Allowed(pub bool);
+
+impl fmt::Display for Allowed {
+    fn fmt<W: fmt::Write>(&self, f: &mut fmt::Formatter<W>) -> fmt::Result {
+        f.write_str(if self.0 { "allowed" } else { "not allowed" })
+    }
+}
+
+/// A value or none.
+#[derive(Clone, Copy, PartialEq, Eq)]
+pub struct Choice(pub Option<u64>);
+
+impl fmt::Display for Choice {
+    fn fmt<W: fmt::Write>(&self, f: &mut fmt::Formatter<W>) -> fmt::Result {
+        match self.0 {
+            Some(value) => write!(f, "{value}"),
+            None => f.write_str("none"),
+        }
+    }
+}
