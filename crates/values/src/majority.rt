@@ -1,5 +1,5 @@
 ghost use Rattle.std.specs.Prelude.{◌≡◌, ◌≤◌, length};
-ghost use Rattle.values.specs.Reports.{values, votes, majority, Most, Exactly};
+ghost use Rattle.values.specs.Reports.{values, votes, leading, majority, Most, Exactly};
 ghost use Rattle.values.specs.Majorities.{majority-silent, only-majority};
 
 use crate::choice::ChoiceRule;
@@ -19,16 +19,25 @@ fn votes(reports: &[Option<u64>], value: u64) -> usize
         .count()
 }
 
+/// Whether `value` makes up more than half of the reports that are values, of which there are `total`.
+fn leads(reports: &[Option<u64>], value: u64, total: usize) -> bool
+    requires { total ≡ values reports.now }
+    ensures { result ≡ leading value reports.now }
+{
+    total < 2 * votes(reports, value)
+}
+
 /// The first value that makes up more than half of the reports that are values, of which there are `total`.
 fn leader(reports: &[Option<u64>], total: usize) -> Option<u64>
     requires { total ≡ values reports.now }
-    ensures { result ≡ majority reports.now }
+    ensures value { result ≡ majority reports.now }
+    ensures exact { Exactly result (λ v. Most v reports.now) }
 {
     reports
         .iter()
         .copied()
         .flatten()
-        .find(|value| total < 2 * votes(reports, *value))
+        .find(|value| leads(reports, *value, total))
 }
 
 impl ChoiceRule for Majority {
