@@ -1,5 +1,6 @@
-ghost use Rattle.std.specs.Prelude.{◌≡◌, ◌≤◌, length};
+ghost use Rattle.std.specs.Prelude.{◌≡◌, ◌≤◌, [], ◌∷◌, length};
 ghost use Rattle.packets.specs.Form.{head_bytes, header_in};
+ghost use Rattle.packets.specs.Tags.{sealed_bytes};
 
 use crate::bytes::{number, number_bytes};
 
@@ -30,6 +31,15 @@ impl Header {
         [
             self.kind, count, s0, s1, l0, l1, v0, v1, v2, v3, v4, v5, v6, v7,
         ]
+    }
+
+    /// What the sender of a packet seals: bytes 0 to 13, with 1 in byte 1, and its number.
+    pub fn sealed_by_sender(&self, sender: u8) -> [u8; 15]
+        ensures { result ≡ sealed_bytes self.now (sender ∷ []) 1 }
+    {
+        let mut message = [sender; 15];
+        message[..HEADER_LEN].copy_from_slice(&self.bytes(1));
+        message
     }
 
     /// What bytes 0 to 13 of a packet say.

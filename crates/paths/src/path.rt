@@ -168,6 +168,19 @@ impl Path {
     }
 }
 
+/// The stations, parted by spaces.
+impl fmt::Display for Path {
+    fn fmt<W: fmt::Write>(&self, f: &mut fmt::Formatter<W>) -> fmt::Result {
+        for (i, station) in self.stations().iter().enumerate() {
+            if i > 0 {
+                f.write_str(" ")?;
+            }
+            write!(f, "{station}")?;
+        }
+        Ok(())
+    }
+}
+
 // Equality and order are those of the stations. A derive would compare the numbers past the path's end too.
 
 impl PartialEq for Path {

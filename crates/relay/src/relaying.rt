@@ -1,61 +1,86 @@
-use crate::receive::{Changes, receive};
-use crate::sent::Sent;
-use crate::show;
-use packets::Header;
+use crate::changes::Changes;
+use crate::receive::receive;
+use anyhow::Context;
+use console::Hex;
+use packets::{Header, packet_length, write};
 use paths::Path;
 use seals::Seal;
+use std::alloc::Global;
 use std::io;
 
 /// A packet goes from its sender through stations 1 to 3, and station 4 hears it. Then it is damaged in each way that one bit
 /// allows.
-pub(crate) fn tell<S: Seal>(rt: &HostRuntime, seal: &S, header: Header) -> io::Result<()> {
-    let mut sent = Sent::by(seal, header, &Path::start(0));
-    let shown = show::Hex(sent.bytes());
-    println!(rt; "  station 0 sends {shown}")?;
+pub(crate) fn tell<S: Seal>(
+    rt: &(impl Print + AllocGlobal),
+    seal: &S,
+    header: Header,
+) -> anyhow::Result<()> {
+    let mut packet = packet_by(rt.alloc(), seal, header, &Path::start(0))?;
+    println!(rt; "  station 0 sends {}", Hex(&packet))?;
     for station in 1..5u8 {
-        if let Some(relayed) = hear(rt, seal, station, &sent)? {
-            sent = relayed;
+        if let Some(relayed) = hear(rt, seal, station, &packet)? {
+            packet = relayed;
         }
     }
-    damage(rt, seal, &sent)
+    damage(rt, seal, &mut packet)?;
+    Ok(())
+}
+
+/// The packet that says what the header says and has the path's stations and their tags.
+fn packet_by<S: Seal>(
+    alloc: Global,
+    seal: &S,
+    header: Header,
+    path: &Path,
+) -> anyhow::Result<Vec<u8>> {
+    let length = packet_length::<S>(path.len()).context("the path is too long")?;
+    let mut bytes = vec![in alloc; 0; length]?;
+    write(seal, header, path, &mut bytes, 0).context("the packet is too long")?;
+    Ok(bytes)
 }
 
 /// A station receives a packet, and what it relays, if anything.
-fn hear<S: Seal>(rt: &HostRuntime, seal: &S, station: u8, sent: &Sent) -> io::Result<Option<Sent>> {
-    let heard = match receive(seal, sent.bytes()) {
+fn hear<S: Seal>(
+    rt: &(impl Print + AllocGlobal),
+    seal: &S,
+    station: u8,
+    packet: &[u8],
+) -> anyhow::Result<Option<Vec<u8>>> {
+    let heard = match receive(seal, packet) {
         Ok(heard) => heard,
         Err(refused) => {
             println!(rt; "  station {station} refuses it: {refused}")?;
             return Ok(None);
         }
     };
-    let by = show::Stations(heard.path.stations());
-    println!(rt; "  station {station} finds it good, by way of {by}")?;
+    println!(rt;
+        "  station {station} finds it good, by way of {}",
+        heard.path
+    )?;
     let Some(path) = heard.path.with(station) else {
         println!(rt; "  station {station} relays nothing: the path is full")?;
         return Ok(None);
     };
-    let relayed = Sent::by(seal, heard.header, &path);
-    let shown = show::Hex(relayed.bytes());
-    println!(rt; "  station {station} relays {shown}")?;
+    let relayed = packet_by(rt.alloc(), seal, heard.header, &path)?;
+    println!(rt; "  station {station} relays {}", Hex(&relayed))?;
     Ok(Some(relayed))
 }
 
-/// A packet with one byte missing, with one tag byte changed, and with each bit changed in turn.
-fn damage<S: Seal>(rt: &HostRuntime, seal: &S, sent: &Sent) -> io::Result<()> {
-    let bytes = sent.bytes();
-    if let Some((_, front)) = bytes.split_last() {
+/// A packet with one byte missing, and with each bit changed in turn.
+fn damage<S: Seal>(rt: &impl Print, seal: &S, packet: &mut [u8]) -> io::Result<()> {
+    if let Some((_, front)) = packet.split_last() {
         if let Err(refused) = receive(seal, front) {
             println!(rt; "  without its last byte it is refused: {refused}")?;
         }
     }
-    let changes = Changes::of(seal, sent);
+    let Changes {
+        bytes,
+        path,
+        tag,
+        taken,
+    } = Changes::of(seal, packet);
+    let bits = packet.len().saturating_mul(8);
     println!(rt;
-        "  of its {} changes of one bit, {} are refused by shape, {} by path, {} by tag; {} are taken",
-        bytes.len().saturating_mul(8),
-        changes.bytes,
-        changes.path,
-        changes.tag,
-        changes.taken
+        "  of its {bits} changes of one bit, {bytes} are refused by shape, {path} by path, {tag} by tag; {taken} are taken"
     )
 }

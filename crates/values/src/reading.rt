@@ -3,6 +3,7 @@ ghost use Rattle.std.proofs.Common.{lit≤};
 ghost use Rattle.values.specs.Readings.{reading_bits, reading_of, in_range, reading_allowed};
 
 use crate::kind::Kind;
+use std::fmt;
 
 /// A level reading.
 #[derive(Clone, Copy, PartialEq, Eq, Debug)]
@@ -54,6 +55,22 @@ impl Reading {
         (-500..=50_000).contains(&self.height)
             && (1..=11_000).contains(&self.pressure)
             && (-1_000..=600).contains(&self.temperature)
+    }
+}
+
+impl fmt::Display for Reading {
+    fn fmt<W: fmt::Write>(&self, f: &mut fmt::Formatter<W>) -> fmt::Result {
+        let height = self.height;
+        let pressure = self.pressure;
+        let sign = if self.temperature < 0 { "-" } else { "" };
+        let tenths = self.temperature.unsigned_abs();
+        write!(
+            f,
+            "height {height} m, pressure {}.{} hPa, ",
+            pressure / 10,
+            pressure % 10
+        )?;
+        write!(f, "temperature {sign}{}.{} °C", tenths / 10, tenths % 10)
     }
 }
 

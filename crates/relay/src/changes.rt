@@ -1,0 +1,46 @@
+use crate::receive::{Heard, Refused, receive};
+use seals::Seal;
+
+/// What came of changing each bit of a packet in turn.
+#[derive(Clone, Copy)]
+pub struct Changes {
+    pub bytes: u32,
+    pub path: u32,
+    pub tag: u32,
+    pub taken: u32,
+}
+
+impl Changes {
+    /// No change yet.
+    const NONE: Changes = Changes {
+        bytes: 0,
+        path: 0,
+        tag: 0,
+        taken: 0,
+    };
+
+    /// Changes each bit of a packet, counts what a receiver says, and changes it back.
+    pub(crate) fn of<S: Seal>(seal: &S, packet: &mut [u8]) -> Changes {
+        let mut changes = Changes::NONE;
+        // An index, since the receiver reads the whole packet while one of its bytes is changed.
+        for i in 0..packet.len() {
+            for mask in [1, 2, 4, 8, 16, 32, 64, 128] {
+                packet[i] ^= mask;
+                changes.count(receive(seal, packet));
+                packet[i] ^= mask;
+            }
+        }
+        changes
+    }
+
+    /// One change more.
+    fn count(&mut self, received: Result<Heard, Refused>) {
+        let counter = match received {
+            Ok(_) => &mut self.taken,
+            Err(Refused::Bytes(_)) => &mut self.bytes,
+            Err(Refused::Path(_)) => &mut self.path,
+            Err(Refused::Tag) => &mut self.tag,
+        };
+        *counter = counter.saturating_add(1);
+    }
+}
