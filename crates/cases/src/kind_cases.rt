@@ -13,62 +13,37 @@ const GOOD: Reading = Reading {
 /// Both kinds at the edges of what they allow.
 pub(crate) fn run<P: Print>(tally: &mut Tally<P>) -> io::Result<()> {
     tally.case("kind", "of readings", 1, Readings.number())?;
-    heights(tally)?;
-    pressures(tally)?;
-    temperatures(tally)?;
+    readings(tally)?;
     bits(tally)?;
     tally.case("kind", "of notices", 2, Notices.number())?;
     notices(tally)
 }
 
-/// Whether the kind allows a reading.
-fn reading<P: Print>(
-    tally: &mut Tally<P>,
-    name: &str,
-    allowed: bool,
-    reading: Reading,
-) -> io::Result<()> {
-    let got = Readings.allows(reading.into());
-    tally.case("reading,", name, Allowed(allowed), Allowed(got))
-}
-
-fn heights<P: Print>(tally: &mut Tally<P>) -> io::Result<()> {
-    for (name, allowed, height) in [
-        ("height -501 m", false, -501),
-        ("height -500 m", true, -500),
-        ("height 50000 m", true, 50_000),
-        ("height 50001 m", false, 50_001),
+/// Whether the kind allows readings at the limits of each part.
+fn readings<P: Print>(tally: &mut Tally<P>) -> io::Result<()> {
+    let height = |height| Reading { height, ..GOOD };
+    let pressure = |pressure| Reading { pressure, ..GOOD };
+    let temperature = |temperature| Reading {
+        temperature,
+        ..GOOD
+    };
+    for (name, allowed, reading) in [
+        ("height -501 m", false, height(-501)),
+        ("height -500 m", true, height(-500)),
+        ("height 50000 m", true, height(50_000)),
+        ("height 50001 m", false, height(50_001)),
+        ("pressure 0.0 hPa", false, pressure(0)),
+        ("pressure 0.1 hPa", true, pressure(1)),
+        ("pressure 1100.0 hPa", true, pressure(11_000)),
+        ("pressure 1100.1 hPa", false, pressure(11_001)),
+        ("temperature -3276.8 °C", false, temperature(-32_768)),
+        ("temperature -100.1 °C", false, temperature(-1_001)),
+        ("temperature -100.0 °C", true, temperature(-1_000)),
+        ("temperature 60.0 °C", true, temperature(600)),
+        ("temperature 60.1 °C", false, temperature(601)),
     ] {
-        reading(tally, name, allowed, Reading { height, ..GOOD })?;
-    }
-    Ok(())
-}
-
-fn pressures<P: Print>(tally: &mut Tally<P>) -> io::Result<()> {
-    for (name, allowed, pressure) in [
-        ("pressure 0.0 hPa", false, 0),
-        ("pressure 0.1 hPa", true, 1),
-        ("pressure 1100.0 hPa", true, 11_000),
-        ("pressure 1100.1 hPa", false, 11_001),
-    ] {
-        reading(tally, name, allowed, Reading { pressure, ..GOOD })?;
-    }
-    Ok(())
-}
-
-fn temperatures<P: Print>(tally: &mut Tally<P>) -> io::Result<()> {
-    for (name, allowed, temperature) in [
-        ("temperature -3276.8 °C", false, -32_768),
-        ("temperature -100.1 °C", false, -1_001),
-        ("temperature -100.0 °C", true, -1_000),
-        ("temperature 60.0 °C", true, 600),
-        ("temperature 60.1 °C", false, 601),
-    ] {
-        let changed = Reading {
-            temperature,
-            ..GOOD
-        };
-        reading(tally, name, allowed, changed)?;
+        let got = Allowed(Readings.allows(reading.into()));
+        tally.case("reading,", name, Allowed(allowed), got)?;
     }
     Ok(())
 }

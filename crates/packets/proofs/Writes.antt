@@ -1,7 +1,7 @@
 -- Lists written over a part of another.
 use Rattle.std.proofs.Common.{◌≡◌, ℕ, zero, suc, ◌+◌, ◌/◌, ◌%◌, ◌≤◌, List, [], ◌++◌, length, take, drop, sym, refl, ap, ◌∙◌, add-zero, add_assoc, add-one, arith}
 use borrow.Rule.Slice.PartMut.{put_mid}
-use Rattle.std.proofs.lemmas.List.{append_assoc, take-append-drop, take_at, drop_at, drop-drop, length-append, length-take-le, length_push}
+use Rattle.std.proofs.lemmas.List.{append-nil, drop_all, length-drop, append_assoc, take-append-drop, take_at, drop_at, drop-drop, length-append, length-take-le, length_push}
 use Rattle.packets.specs.Bytes.{bytes_of, over}
 
 pub bytes_of-length : (w n : ℕ) → length (bytes_of w n) ≡ w
@@ -42,3 +42,16 @@ over-part xs at n ys zs e l = ap (λ us. take at xs ++ (us ++ drop n (drop at xs
 -- one write more
 pub over-more : (xs zs : List ℕ) (at : ℕ) (ys more : List ℕ) (n : ℕ) → zs ≡ over xs at ys → at + length ys ≤ length xs → n ≡ at + length ys → over zs n more ≡ over xs at (ys ++ more)
 over-more xs zs at ys more n e fits place = ap (λ us. over us n more) e ∙ over-over xs at ys fits more n place
+
+pub over-length : (xs : List ℕ) (at : ℕ) (ys : List ℕ) → at + length ys ≤ length xs → length (over xs at ys) ≡ length xs
+unfolding over
+over-length xs at ys fits =
+    let front = length-take-le at xs (omega arith) in
+    let rest = length-drop (at + length ys) xs in
+    let behind = length-append ys (drop (at + length ys) xs) in
+    length-append (take at xs) (ys ++ drop (at + length ys) xs) ∙ omega arith
+
+-- a buffer that is written over from end to end
+pub over-whole : (xs ys : List ℕ) → length ys ≡ length xs → over xs 0 ys ≡ ys
+unfolding over
+over-whole xs ys e = ap (λ us. ys ++ us) (drop_all (0 + length ys) xs (omega arith)) ∙ append-nil ys

@@ -1,15 +1,7 @@
-//! Numbers and lists as bytes at a place of a buffer, the high byte first.
-ghost use Rattle.std.specs.Prelude.{◌≡◌, ◌+◌, ◌^◌, ◌<◌, ◌≤◌, length};
+//! Numbers as bytes, the high byte first.
+ghost use Rattle.std.specs.Prelude.{◌≡◌, ◌^◌, ◌<◌, ◌≤◌, length};
 ghost use Rattle.std.specs.Int.Digits.{number_from_digits};
-ghost use Rattle.packets.specs.Bytes.{bytes_of, over};
-
-/// Writes a list of bytes at a place.
-pub(crate) fn put_bytes(out: &mut [u8], at: usize, part: &[u8])
-    requires { at + length part.now ≤ length out.old }
-    ensures { out.new ≡ over out.old at part.now }
-{
-    out[at..at + part.len()].copy_from_slice(part);
-}
+ghost use Rattle.packets.specs.Bytes.{bytes_of};
 
 /// The eight bytes of a number.
 pub(crate) fn number_bytes(n: u64) -> [u8; 8]
@@ -18,13 +10,13 @@ pub(crate) fn number_bytes(n: u64) -> [u8; 8]
     n.to_be_bytes()
 }
 
-/// Writes the `w` low bytes of a number at a place.
-pub(crate) fn put_number(out: &mut [u8], at: usize, w: usize, n: u64)
-    requires short { w ≤ 8 }
-    requires room { at + w ≤ length out.old }
-    ensures { out.new ≡ over out.old at (bytes_of w n) }
+/// Writes the low bytes of a number to a place of up to eight bytes.
+pub(crate) fn put_number(place: &mut [u8], n: u64)
+    requires { length place.old ≤ 8 }
+    ensures { place.new ≡ bytes_of (length place.old) n }
 {
-    put_bytes(out, at, &number_bytes(n)[8 - w..]);
+    let low = 8 - place.len();
+    place.copy_from_slice(&number_bytes(n)[low..]);
 }
 
 /// The number that up to eight bytes are.

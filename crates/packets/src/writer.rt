@@ -1,12 +1,11 @@
 ghost use Rattle.std.specs.Prelude.{◌≡◌, ◌+◌, ◌≤◌, true, length};
-ghost use Rattle.packets.specs.Bytes.{over};
 ghost use Rattle.packets.specs.Calls.{length_for, placed, WrittenWithin};
 ghost use Rattle.packets.specs.Form.{encode, packet_length};
 ghost use Rattle.packets.specs.Laws.{ReadsBack, Stands, WrittenBack};
 ghost use Rattle.packets.specs.Tags.{sealed_parts};
 ghost use Rattle.paths.specs.Paths.{stations};
 
-use crate::bytes::{put_bytes, put_number};
+use crate::bytes::put_number;
 use crate::header::{HEADER_LEN, Header};
 use crate::unsealed::Unsealed;
 use paths::{LONGEST, Path};
@@ -31,18 +30,18 @@ pub fn packet_length<S: Seal>(stations: usize) -> Option<usize>
 }
 
 impl Unsealed<'_> {
-    /// Writes the packet, with all tags, where there is room for it.
-    fn put<S: Seal>(&self, seal: &S, out: &mut [u8], at: usize)
-        requires { at + packet_length S.WIDTH (length self.now.stations.now) ≤ length out.old }
-        ensures { out.new ≡ over out.old at (encode S.WIDTH (sealed_parts (S.meaning seal.now) self.now.header self.now.stations.now)) }
+    /// Writes the packet, with all tags, to a place of its length.
+    fn put<S: Seal>(&self, seal: &S, place: &mut [u8])
+        requires { length place.old ≡ packet_length S.WIDTH (length self.now.stations.now) }
+        ensures { place.new ≡ encode S.WIDTH (sealed_parts (S.meaning seal.now) self.now.header self.now.stations.now) }
     {
         let k = self.stations.len();
-        put_bytes(out, at, &self.header.bytes(k as u8));
-        put_bytes(out, at + HEADER_LEN, self.stations);
-        let mut end = at + HEADER_LEN + k;
+        place[..HEADER_LEN].copy_from_slice(&self.header.bytes(k as u8));
+        place[HEADER_LEN..HEADER_LEN + k].copy_from_slice(self.stations);
+        let mut at = HEADER_LEN + k;
         for tag in &self.tags(seal)[..k] {
-            put_number(out, end, S::WIDTH, *tag);
-            end += S::WIDTH;
+            put_number(&mut place[at..at + S::WIDTH], *tag);
+            at += S::WIDTH;
         }
     }
 }
@@ -66,6 +65,6 @@ pub fn write<S: Seal>(
     if n > out.len() || at > out.len() - n {
         return None;
     }
-    unsealed.put(seal, out, at);
+    unsealed.put(seal, &mut out[at..at + n]);
     Some(n)
 }

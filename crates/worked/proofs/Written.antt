@@ -1,24 +1,18 @@
 -- The packets of the worked example.
-use Rattle.std.proofs.Common.{◌≡◌, ℕ, ◌+◌, List, ◌++◌, length, Option, refl, ap, ◌∙◌, arith}
+use Rattle.std.proofs.Common.{◌≡◌, ℕ, ◌+◌, List, length, Option, refl, ap, ◌∙◌, arith}
 use Rattle.seals.specs.CodeBooks.{book_tag}
 use Rattle.seals.specs.Worked.{counting_words}
-use Rattle.std.proofs.lemmas.List.{append-nil, drop_all}
 use Rattle.std.proofs.lemmas.Bool.{cond-true, le-leb}
-use Rattle.packets.specs.Bytes.{over}
 use Rattle.packets.specs.Form.{head_bytes, encode, packet_length}
 use Rattle.packets.specs.Tags.{sealed_parts}
 use Rattle.packets.specs.Calls.{placed}
 use Rattle.worked.specs.Notices.{books, notice, notice_by, WorkedPackets}
 use Rattle.packets.proofs.Forms.{encode-length, tags_for-length}
+use Rattle.packets.proofs.Writes.{over-whole}
 
 pub worked : WorkedPackets
 unfolding head_bytes encode
 worked = record { sent = refl; relayed = refl; sent_read = refl; relayed_read = refl; sent_held = refl; relayed_held = refl; damaged_read = refl; damaged_not_held = refl }
-
--- a buffer that is written over from end to end
-over-whole : (xs ys : List ℕ) → length ys ≡ length xs → over xs 0 ys ≡ ys
-unfolding over
-over-whole xs ys e = ap (λ us. ys ++ us) (drop_all (0 + length ys) xs (omega arith)) ∙ append-nil ys
 
 -- the notice fills its buffer
 pub notice-written : (words t out new : List ℕ) (r : Option ℕ) → words ≡ counting_words → length out ≡ packet_length 2 (length t)
