@@ -8,13 +8,14 @@ use std::error::Error;
 use std::fmt;
 
 /// A packet as it was read. Nothing is known of it: its row may be no path, and its tags may be wrong.
-#[derive(Clone, Copy)]
+#[derive(Clone, Copy, Debug)]
 pub struct Packet {
     /// What it says.
     pub header: Header,
     /// The stations that it names as its path.
     pub row: Row,
     /// A tag for each of them.
+    // An array as long as the longest path, since library crates have no heap and a packet is kept after its bytes are gone.
     pub(crate) tags: [u64; 4],
 }
 
@@ -45,7 +46,7 @@ impl Packet {
 }
 
 /// A packet at the front of some bytes, and how many of them it takes.
-#[derive(Clone, Copy)]
+#[derive(Clone, Copy, Debug)]
 pub struct Front {
     pub packet: Packet,
     /// How many bytes it takes.

@@ -36,6 +36,8 @@ fn row_in(bytes: &[u8]) -> Row
     }
 }
 
+// That the bytes hold the packet is one word, `Whole`: a struct that kept it would have to carry the seal's type too.
+
 /// Tag `i` as it stands in the bytes, counted from 0.
 fn tag_in<S: Seal>(bytes: &[u8], i: usize) -> u64
     requires { (i < count_in bytes.now) × Whole S.WIDTH bytes.now }

@@ -38,6 +38,7 @@ impl Unsealed<'_> {
         let k = self.stations.len();
         place[..HEADER_LEN].copy_from_slice(&self.header.bytes(k as u8));
         place[HEADER_LEN..HEADER_LEN + k].copy_from_slice(self.stations);
+        // The place is counted by hand: the proof knows nothing of what a loop writes through `chunks_exact_mut`.
         let mut at = HEADER_LEN + k;
         for tag in &self.tags(seal)[..k] {
             put_number(&mut place[at..at + S::WIDTH], *tag);

@@ -27,4 +27,4 @@ relayed_bytes = 2 ∷ 2 ∷ 0 ∷ 1 ∷ 0 ∷ 1 ∷ 0 ∷ 0 ∷ 0 ∷ 0 ∷ 0 �
 -- their tags under the words that count
 abbrev pub WorkedTags : Type 0
 WorkedTags =
-    (book_tag (counting_words) 0 sent_bytes ≡ 0xAA04) × (book_tag (counting_words) 1 relayed_bytes ≡ 0x6BF7)
+    (book_tag counting_words 0 sent_bytes ≡ 0xAA04) × (book_tag counting_words 1 relayed_bytes ≡ 0x6BF7)

@@ -27,7 +27,7 @@ pub trait Seal {
         ensures { result ≡ meaning self.now station message.now };
 
     /// Whether a tag is the station's over the message.
-    final fn verify(&self, station: u8, message: &[u8], tag: u64) -> bool
+    fn verify(&self, station: u8, message: &[u8], tag: u64) -> bool
         ensures { result ≡ (tag == meaning self.now station message.now) }
     {
         tag == self.tag(station, message)
