@@ -1,111 +1,116 @@
-use crate::tally::{Case, Outcome, Tally};
+use anyhow::Context;
+use console::Tally;
 use paths::{NotAPath, Path, Row};
 use std::cmp::Ordering;
-use std::io;
+use std::{fmt, io};
+
+/// Whether there is a path.
+// It differs from `Named` in its words alone; a const parameter can't be a text.
+#[derive(Clone, Copy, PartialEq, Eq)]
+struct Found(bool);
+
+impl fmt::Display for Found {
+    fn fmt<W: fmt::Write>(&self, f: &mut fmt::Formatter<W>) -> fmt::Result {
+        f.write_str(if self.0 { "a path" } else { "no path" })
+    }
+}
+
+/// Whether a path names a station.
+#[derive(Clone, Copy, PartialEq, Eq)]
+struct Named(bool);
+
+impl fmt::Display for Named {
+    fn fmt<W: fmt::Write>(&self, f: &mut fmt::Formatter<W>) -> fmt::Result {
+        f.write_str(if self.0 { "named" } else { "not named" })
+    }
+}
+
+/// How one path stands to another.
+#[derive(Clone, Copy, PartialEq, Eq)]
+struct Order(Ordering);
+
+impl fmt::Display for Order {
+    fn fmt<W: fmt::Write>(&self, f: &mut fmt::Formatter<W>) -> fmt::Result {
+        f.write_str(match self.0 {
+            Ordering::Less => "before",
+            Ordering::Equal => "same",
+            Ordering::Greater => "after",
+        })
+    }
+}
 
 /// Paths: which rows are paths, one more station, the parts of a path, and the order of paths.
-pub(crate) fn run(tally: &mut Tally) -> io::Result<()> {
-    tally.cases("row", &rows())?;
-    tally.cases("path", &extensions())?;
-    tally.cases("path (4, 2, 6),", &parts())?;
-    tally.cases("order of", &orders())
+pub(crate) fn run<P: Print>(tally: &mut Tally<P>) -> anyhow::Result<()> {
+    rows(tally)?;
+    extensions(tally)?;
+    parts(tally)?;
+    orders(tally)
 }
 
-/// The row of the first `len` numbers.
-fn row(numbers: [u8; 4], len: usize) -> Row {
-    Row { numbers, len }
-}
-
-/// One case of whether there is a path.
-fn found(name: &'static str, expected: bool, got: Option<Path>) -> Case {
-    Case {
-        name,
-        expected: Outcome::Path(expected),
-        got: Outcome::Path(got.is_some()),
-    }
+/// The path of the first `len` numbers.
+fn path(numbers: [u8; 4], len: usize) -> Result<Path, NotAPath> {
+    Path::try_from(Row { numbers, len })
 }
 
 /// Which rows are paths.
-fn rows() -> [Case; 5] {
+fn rows<P: Print>(tally: &mut Tally<P>) -> io::Result<()> {
     let numbers = [0, 1, 2, 3];
-    [
-        found("(0, 1)", true, Path::try_from(row(numbers, 2)).ok()),
-        found("(0, 1, 2, 3)", true, Path::try_from(row(numbers, 4)).ok()),
-        found(
-            "(0, 1, 0)",
-            false,
-            Path::try_from(row([0, 1, 0, 3], 3)).ok(),
-        ),
-        found("of length 0", false, Path::try_from(row(numbers, 0)).ok()),
-        found("of length 5", false, Path::try_from(row(numbers, 5)).ok()),
-    ]
-}
-
-/// The path in a row with one more station; none if there is no such path.
-fn extended(row: Row, station: u8) -> Option<Path> {
-    Path::try_from(row).ok()?.with(station)
-}
-
-/// Whether there is a path with one more station.
-fn extensions() -> [Case; 4] {
-    let numbers = [0, 1, 2, 3];
-    [
-        found("(0) with 1", true, extended(row(numbers, 1), 1)),
-        found("(0) with 0", false, extended(row(numbers, 1), 0)),
-        found("(0, 1, 2) with 3", true, extended(row(numbers, 3), 3)),
-        found("(0, 1, 2, 3) with 4", false, extended(row(numbers, 4), 4)),
-    ]
-}
-
-/// One case of whether a path names a station.
-fn named(name: &'static str, expected: bool, got: bool) -> Case {
-    Case {
-        name,
-        expected: Outcome::Named(expected),
-        got: Outcome::Named(got),
+    let cases = [
+        ("(0, 1)", true, path(numbers, 2)),
+        ("(0, 1, 2, 3)", true, path(numbers, 4)),
+        ("(0, 1, 0)", false, path([0, 1, 0, 3], 3)),
+        ("of length 0", false, path(numbers, 0)),
+        ("of length 5", false, path(numbers, 5)),
+    ];
+    for (name, expected, got) in cases {
+        tally.case("row", name, Found(expected), Found(got.is_ok()))?;
     }
+    Ok(())
+}
+
+/// Whether there is a path with one more station than the first `len` of 0 to 3.
+fn extended(len: usize, station: u8) -> Result<Found, NotAPath> {
+    let extended = path([0, 1, 2, 3], len)?.with(station);
+    Ok(Found(extended.is_some()))
+}
+
+/// Paths with one more station.
+fn extensions<P: Print>(tally: &mut Tally<P>) -> anyhow::Result<()> {
+    tally.case("path", "(0) with 1", Found(true), extended(1, 1)?)?;
+    tally.case("path", "(0) with 0", Found(false), extended(1, 0)?)?;
+    tally.case("path", "(0, 1, 2) with 3", Found(true), extended(3, 3)?)?;
+    tally.case("path", "(0, 1, 2, 3) with 4", Found(false), extended(4, 4)?)?;
+    Ok(())
 }
 
 /// What the path (4, 2, 6) says of itself.
-fn parts() -> [Case; 5] {
-    let path = extended(row([4, 2, 0, 0], 2), 6).unwrap_or(Path::start(0));
-    [
-        Case::count("first", 4, u64::from(path.first())),
-        Case::count("last", 6, u64::from(path.last())),
-        Case::count("length", 3, path.len() as u64),
-        named("station 2", true, path.contains(2)),
-        named("station 0", false, path.contains(0)),
-    ]
-}
-
-/// The order of the paths in two rows, or why one of them is no path.
-fn compared(a: Row, b: Row) -> Result<Ordering, NotAPath> {
-    Ok(Path::try_from(a)?.cmp(&Path::try_from(b)?))
-}
-
-/// One case of the order of the paths in two rows.
-fn order(name: &'static str, expected: Ordering, a: Row, b: Row) -> Case {
-    let got = match compared(a, b) {
-        Ok(order) => Outcome::Order(order),
-        Err(_) => Outcome::Path(false),
-    };
-    Case {
-        name,
-        expected: Outcome::Order(expected),
-        got,
-    }
+fn parts<P: Print>(tally: &mut Tally<P>) -> anyhow::Result<()> {
+    let subject = "path (4, 2, 6),";
+    let path = path([4, 2, 0, 0], 2)?
+        .with(6)
+        .context("(4, 2, 6) is no path")?;
+    tally.case(subject, "first", 4, path.first())?;
+    tally.case(subject, "last", 6, path.last())?;
+    tally.case(subject, "length", 3, path.len())?;
+    tally.case(subject, "station 2", Named(true), Named(path.contains(2)))?;
+    tally.case(subject, "station 0", Named(false), Named(path.contains(0)))?;
+    Ok(())
 }
 
 /// Which of two paths comes first.
-fn orders() -> [Case; 5] {
-    let one = row([0, 0, 0, 0], 1);
-    let low = row([0, 1, 0, 0], 2);
-    let high = row([0, 2, 0, 0], 2);
-    [
-        order("(0, 1) to (0, 2)", Ordering::Less, low, high),
-        order("(0, 2) to (0, 1)", Ordering::Greater, high, low),
-        order("(0, 1) to (0, 1)", Ordering::Equal, low, low),
-        order("(0) to (0, 1)", Ordering::Less, one, low),
-        order("(0, 1) to (0)", Ordering::Greater, low, one),
-    ]
+fn orders<P: Print>(tally: &mut Tally<P>) -> anyhow::Result<()> {
+    let one = path([0, 0, 0, 0], 1)?;
+    let low = path([0, 1, 0, 0], 2)?;
+    let high = path([0, 2, 0, 0], 2)?;
+    let cases = [
+        ("(0, 1) to (0, 2)", Ordering::Less, low.cmp(&high)),
+        ("(0, 2) to (0, 1)", Ordering::Greater, high.cmp(&low)),
+        ("(0, 1) to (0, 1)", Ordering::Equal, low.cmp(&low)),
+        ("(0) to (0, 1)", Ordering::Less, one.cmp(&low)),
+        ("(0, 1) to (0)", Ordering::Greater, low.cmp(&one)),
+    ];
+    for (name, expected, got) in cases {
+        tally.case("order of", name, Order(expected), Order(got))?;
+    }
+    Ok(())
 }
