@@ -1,8 +1,5 @@
 ghost use Rattle.std.specs.Prelude.{◌≡◌, ◌↔◌, IsOk};
 
-use std::error::Error;
-use std::fmt;
-
 /// How many cases were run, and how many came out otherwise than expected.
 #[derive(Clone, Copy, PartialEq, Eq, Debug)]
 pub struct Counts {
@@ -11,16 +8,9 @@ pub struct Counts {
 }
 
 /// A case came out otherwise than expected.
-#[derive(Clone, Copy, PartialEq, Eq, Debug)]
+#[derive(Clone, Copy, PartialEq, Eq, Debug, thiserror::Error)]
+#[error("a case came out otherwise than expected")]
 pub struct Differing;
-
-impl fmt::Display for Differing {
-    fn fmt<W: fmt::Write>(&self, f: &mut fmt::Formatter<W>) -> fmt::Result {
-        f.write_str("a case came out otherwise than expected")
-    }
-}
-
-impl Error for Differing {}
 
 impl Counts {
     ghost use Rattle.console.specs.Counting.{counted};

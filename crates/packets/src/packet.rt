@@ -4,8 +4,6 @@ use crate::header::Header;
 use crate::unsealed::Unsealed;
 use paths::{LONGEST, Row};
 use seals::Seal;
-use std::error::Error;
-use std::fmt;
 
 /// A packet as it was read. Nothing is known of it: its row may be no path, and its tags may be wrong.
 #[derive(Clone, Copy, Debug)]
@@ -54,24 +52,15 @@ pub struct Front {
 }
 
 /// Why bytes are no packet.
-#[derive(Clone, Copy, PartialEq, Eq, Debug)]
+#[derive(Clone, Copy, PartialEq, Eq, Debug, thiserror::Error)]
 pub enum Malformed {
     /// There are fewer than 15.
+    #[error("too short")]
     TooShort,
     /// The path length is not 1 to 4.
+    #[error("path length")]
     PathLength,
     /// There are more or fewer than the packet takes.
+    #[error("wrong length")]
     WrongLength,
 }
-
-impl fmt::Display for Malformed {
-    fn fmt<W: fmt::Write>(&self, f: &mut fmt::Formatter<W>) -> fmt::Result {
-        f.write_str(match self {
-            Malformed::TooShort => "too short",
-            Malformed::PathLength => "path length",
-            Malformed::WrongLength => "wrong length",
-        })
-    }
-}
-
-impl Error for Malformed {}

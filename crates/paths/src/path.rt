@@ -9,7 +9,6 @@ ghost use Rattle.paths.specs.Stations.{names, distinct, first_of, last_of, exten
 
 use crate::row::{LONGEST, Row};
 use std::cmp::Ordering;
-use std::error::Error;
 use std::fmt;
 
 /// A path: the stations that a packet has passed. They are one to four, no station is named twice, and `first` is the
@@ -27,24 +26,15 @@ pub struct Path {
 }
 
 /// Why there is no path in a row.
-#[derive(Clone, Copy, Debug, PartialEq, Eq)]
+#[derive(Clone, Copy, Debug, PartialEq, Eq, thiserror::Error)]
 pub enum NotAPath {
     /// Its length is not 1 to 4.
+    #[error("a path names 1 to 4 stations")]
     Length,
     /// Its length is 1 to 4, and it names a station twice.
+    #[error("a station is named twice")]
     StationTwice,
 }
-
-impl fmt::Display for NotAPath {
-    fn fmt<W: fmt::Write>(&self, f: &mut fmt::Formatter<W>) -> fmt::Result {
-        f.write_str(match self {
-            NotAPath::Length => "a path names 1 to 4 stations",
-            NotAPath::StationTwice => "a station is named twice",
-        })
-    }
-}
-
-impl Error for NotAPath {}
 
 /// Whether no station is named twice.
 fn are_distinct(stations: &[u8]) -> bool

@@ -4,8 +4,6 @@ ghost use Rattle.values.specs.Notices.{notice_bits, notice_of, notice_allowed, I
 ghost use Rattle.std.proofs.Common.{lit≤};
 
 use crate::kind::Kind;
-use std::error::Error;
-use std::fmt;
 
 /// What became of the balloon.
 #[derive(Clone, Copy, PartialEq, Eq, Debug)]
@@ -21,16 +19,9 @@ pub enum Notice {
 }
 
 /// A value of 64 bits that stands for no notice.
-#[derive(Clone, Copy, PartialEq, Eq, Debug)]
+#[derive(Clone, Copy, PartialEq, Eq, Debug, thiserror::Error)]
+#[error("{0} stands for no notice")]
 pub struct NotANotice(pub u64);
-
-impl fmt::Display for NotANotice {
-    fn fmt<W: fmt::Write>(&self, f: &mut fmt::Formatter<W>) -> fmt::Result {
-        write!(f, "{} stands for no notice", self.0)
-    }
-}
-
-impl Error for NotANotice {}
 
 impl TryFrom<u64> for Notice {
     type Error = NotANotice;
