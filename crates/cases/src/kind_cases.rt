@@ -1,4 +1,4 @@
-use crate::outcome::{Allowed, Bits};
+use crate::outcome::{Bits, allowed};
 use console::Tally;
 use std::io;
 use values::{Kind, Notice, Notices, Reading, Readings};
@@ -27,7 +27,7 @@ fn readings<P: Print>(tally: &mut Tally<P>) -> io::Result<()> {
         temperature,
         ..GOOD
     };
-    for (name, allowed, reading) in [
+    for (name, expected, reading) in [
         ("height -501 m", false, height(-501)),
         ("height -500 m", true, height(-500)),
         ("height 50000 m", true, height(50_000)),
@@ -42,8 +42,8 @@ fn readings<P: Print>(tally: &mut Tally<P>) -> io::Result<()> {
         ("temperature 60.0 °C", true, temperature(600)),
         ("temperature 60.1 °C", false, temperature(601)),
     ] {
-        let got = Allowed(Readings.allows(reading.into()));
-        tally.case("reading,", name, Allowed(allowed), got)?;
+        let got = allowed(Readings.allows(reading.into()));
+        tally.case("reading,", name, allowed(expected), got)?;
     }
     Ok(())
 }
@@ -64,15 +64,15 @@ fn bits<P: Print>(tally: &mut Tally<P>) -> io::Result<()> {
 
 /// Whether the kind allows a notice, and a notice's bits.
 fn notices<P: Print>(tally: &mut Tally<P>) -> io::Result<()> {
-    for (name, allowed, value) in [
+    for (name, expected, value) in [
         ("0", false, 0),
         ("1", true, 1),
         ("4", true, 4),
         ("5", false, 5),
         ("2^64 - 1", false, u64::MAX),
     ] {
-        let got = Allowed(Notices.allows(value));
-        tally.case("notice", name, Allowed(allowed), got)?;
+        let got = allowed(Notices.allows(value));
+        tally.case("notice", name, allowed(expected), got)?;
     }
     tally.case("notice", "burst, bits", 2, u64::from(Notice::Burst))
 }

@@ -11,14 +11,9 @@ impl fmt::Display for Bits {
     }
 }
 
-/// Whether a value is allowed.
-#[derive(Clone, Copy, PartialEq, Eq)]
-pub struct Allowed(pub bool);
-
-impl fmt::Display for Allowed {
-    fn fmt<W: fmt::Write>(&self, f: &mut fmt::Formatter<W>) -> fmt::Result {
-        f.write_str(if self.0 { "allowed" } else { "not allowed" })
-    }
+/// Whether a value is allowed, in words.
+pub(crate) fn allowed(is: bool) -> &'static str {
+    if is { "allowed" } else { "not allowed" }
 }
 
 /// A value or none.

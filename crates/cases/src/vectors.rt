@@ -8,10 +8,8 @@ use std::{array, fs};
 /// The published SipHash vectors, one line each: the message's length and its hash in hexadecimal.
 pub(crate) fn run<R: Files + Alloc, P: Print>(rt: &R, tally: &mut Tally<P>) -> anyhow::Result<()> {
     let text = fs::read_to_string(rt, "siphash-2-4.txt")?;
-    for line in text.as_str().lines() {
-        if !line.starts_with('#') {
-            vector(tally, line)?;
-        }
+    for line in text.as_str().lines().filter(|line| !line.starts_with('#')) {
+        vector(tally, line)?;
     }
     Ok(())
 }

@@ -7,4 +7,4 @@ pub mod tally;
 
 pub use counts::{Counts, Differing};
 pub use hex::Hex;
-pub use tally::{Tally, Unclosed};
+pub use tally::{CloseError, Tally};

@@ -1,4 +1,4 @@
-ghost use Rattle.std.specs.Prelude.{◌≡◌, not, OnOk};
+ghost use Rattle.std.specs.Prelude.{◌≡◌, ◌<◌, not, OnOk, Err};
 ghost use Rattle.console.specs.Counting.{counted, no_cases};
 
 use crate::counts::{Counts, Differing};
@@ -12,12 +12,12 @@ pub struct Tally<'a, P> {
     pub counts: Counts,
 }
 
-/// Why cases don't end well.
+/// Why a tally is not closed well.
 #[derive(Debug, Drop, thiserror::Error)]
-pub enum Unclosed {
+pub enum CloseError {
     /// The last line was not printed.
     #[error("{0}")]
-    Output(#[from] io::Error),
+    Output(io::Error),
     /// A case came out otherwise than expected.
     #[error("{0}")]
     Differing(#[from] Differing),
@@ -49,11 +49,12 @@ impl<'a, P: Print> Tally<'a, P> {
     }
 
     /// The last line; an error if a case came out otherwise than expected.
-    pub fn close(&self) -> Result<(), Unclosed>
-        ensures { OnOk result (self.now.counts.differing ≡ 0) }
+    pub fn close(&self) -> Result<(), CloseError>
+        ensures ok { OnOk result (self.now.counts.differing ≡ 0) }
+        ensures differing { (d : Differing) → result ≡ Err (CloseError.Differing d) → 0 < self.now.counts.differing }
     {
         let Counts { cases, differing } = self.counts;
-        println!(self.rt; "{cases} cases, {differing} differ")?;
+        println!(self.rt; "{cases} cases, {differing} differ").map_err(CloseError::Output)?;
         self.counts.verdict()?;
         Ok(())
     }

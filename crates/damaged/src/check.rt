@@ -14,7 +14,7 @@ impl fmt::Display for Accepted {
 }
 
 /// Why bytes are refused.
-// `relay` has such an enum of its own, with other words, for a receiver that goes on with the packet.
+// `relay` has an enum like this: one for both would be no plainer, as one of them would have to wrap it to show other words.
 #[derive(Clone, Copy, PartialEq, Eq, Debug, thiserror::Error)]
 pub enum Refused {
     /// They are no packet.

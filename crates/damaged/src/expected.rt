@@ -25,7 +25,7 @@ pub const PATH_LENGTHS: Reads = Reads {
 #[derive(Clone, Copy)]
 pub struct Expected {
     pub subject: &'static str,
-    /// How many stations its path names: 0, 1 and so on.
+    /// How many stations its path names; they are 0, 1 and so on.
     pub stations: usize,
     /// How many changes of one byte make its path name a station twice.
     pub path: u32,

@@ -1,5 +1,5 @@
 use crate::expected::{BY_CODE_BOOK, BY_SIP_HASH, Expected, LENGTHS, PATH_LENGTHS};
-use crate::places;
+use crate::places::{self, Write};
 use crate::sample::Sample;
 use console::Tally;
 use seals::{CodeBook, Seal, SipKeys, counting_keys, counting_words};
@@ -52,13 +52,13 @@ fn one_packet<P: Print, S: Seal>(
         subject,
         "places with room, only the packet changed",
         expected.written,
-        places::with_room(seal, &path),
+        places::count(seal, &path, Write::Done),
     )?;
     tally.case(
         subject,
         "places without room, nothing changed",
         expected.refused,
-        places::without_room(seal, &path),
+        places::count(seal, &path, Write::Refused),
     )?;
     Ok(())
 }

@@ -1,41 +1,24 @@
-use anyhow::Context;
 use console::Tally;
 use paths::{NotAPath, Path, Row};
 use std::cmp::Ordering;
-use std::{fmt, io};
+use std::io;
 
-/// Whether there is a path.
-// It differs from `Named` in its words alone; a const parameter can't be a text.
-#[derive(Clone, Copy, PartialEq, Eq)]
-struct Found(bool);
-
-impl fmt::Display for Found {
-    fn fmt<W: fmt::Write>(&self, f: &mut fmt::Formatter<W>) -> fmt::Result {
-        f.write_str(if self.0 { "a path" } else { "no path" })
-    }
+/// Whether there is a path, in words.
+fn found(is: bool) -> &'static str {
+    if is { "a path" } else { "no path" }
 }
 
-/// Whether a path names a station.
-#[derive(Clone, Copy, PartialEq, Eq)]
-struct Named(bool);
-
-impl fmt::Display for Named {
-    fn fmt<W: fmt::Write>(&self, f: &mut fmt::Formatter<W>) -> fmt::Result {
-        f.write_str(if self.0 { "named" } else { "not named" })
-    }
+/// Whether a path names a station, in words.
+fn named(is: bool) -> &'static str {
+    if is { "named" } else { "not named" }
 }
 
-/// How one path stands to another.
-#[derive(Clone, Copy, PartialEq, Eq)]
-struct Order(Ordering);
-
-impl fmt::Display for Order {
-    fn fmt<W: fmt::Write>(&self, f: &mut fmt::Formatter<W>) -> fmt::Result {
-        f.write_str(match self.0 {
-            Ordering::Less => "before",
-            Ordering::Equal => "same",
-            Ordering::Greater => "after",
-        })
+/// How one path stands to another, in words.
+fn order(order: Ordering) -> &'static str {
+    match order {
+        Ordering::Less => "before",
+        Ordering::Equal => "same",
+        Ordering::Greater => "after",
     }
 }
 
@@ -63,37 +46,35 @@ fn rows<P: Print>(tally: &mut Tally<P>) -> io::Result<()> {
         ("of length 5", false, path(numbers, 5)),
     ];
     for (name, expected, got) in cases {
-        tally.case("row", name, Found(expected), Found(got.is_ok()))?;
+        tally.case("row", name, found(expected), found(got.is_ok()))?;
     }
     Ok(())
 }
 
 /// Whether there is a path with one more station than the first `len` of 0 to 3.
-fn extended(len: usize, station: u8) -> Result<Found, NotAPath> {
+fn extended(len: usize, station: u8) -> Result<&'static str, NotAPath> {
     let extended = path([0, 1, 2, 3], len)?.with(station);
-    Ok(Found(extended.is_some()))
+    Ok(found(extended.is_ok()))
 }
 
 /// Paths with one more station.
 fn extensions<P: Print>(tally: &mut Tally<P>) -> anyhow::Result<()> {
-    tally.case("path", "(0) with 1", Found(true), extended(1, 1)?)?;
-    tally.case("path", "(0) with 0", Found(false), extended(1, 0)?)?;
-    tally.case("path", "(0, 1, 2) with 3", Found(true), extended(3, 3)?)?;
-    tally.case("path", "(0, 1, 2, 3) with 4", Found(false), extended(4, 4)?)?;
+    tally.case("path", "(0) with 1", found(true), extended(1, 1)?)?;
+    tally.case("path", "(0) with 0", found(false), extended(1, 0)?)?;
+    tally.case("path", "(0, 1, 2) with 3", found(true), extended(3, 3)?)?;
+    tally.case("path", "(0, 1, 2, 3) with 4", found(false), extended(4, 4)?)?;
     Ok(())
 }
 
 /// What the path (4, 2, 6) says of itself.
 fn parts<P: Print>(tally: &mut Tally<P>) -> anyhow::Result<()> {
     let subject = "path (4, 2, 6),";
-    let path = path([4, 2, 0, 0], 2)?
-        .with(6)
-        .context("(4, 2, 6) is no path")?;
+    let path = path([4, 2, 0, 0], 2)?.with(6)?;
     tally.case(subject, "first", 4, path.first())?;
     tally.case(subject, "last", 6, path.last())?;
     tally.case(subject, "length", 3, path.len())?;
-    tally.case(subject, "station 2", Named(true), Named(path.contains(2)))?;
-    tally.case(subject, "station 0", Named(false), Named(path.contains(0)))?;
+    tally.case(subject, "station 2", named(true), named(path.contains(2)))?;
+    tally.case(subject, "station 0", named(false), named(path.contains(0)))?;
     Ok(())
 }
 
@@ -110,7 +91,7 @@ fn orders<P: Print>(tally: &mut Tally<P>) -> anyhow::Result<()> {
         ("(0, 1) to (0)", Ordering::Greater, low.cmp(&one)),
     ];
     for (name, expected, got) in cases {
-        tally.case("order of", name, Order(expected), Order(got))?;
+        tally.case("order of", name, order(expected), order(got))?;
     }
     Ok(())
 }

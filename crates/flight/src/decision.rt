@@ -1,3 +1,4 @@
+use crate::READING;
 use crate::show::Report;
 use std::io;
 use values::{ChoiceRule, Majority, Reading, Sole};
@@ -5,9 +6,8 @@ use values::{ChoiceRule, Majority, Reading, Sole};
 /// Stations 1 to 4 report what they hold: two the sender's value, one nothing, one another value.
 pub(crate) fn tell(rt: &impl Print, value: u64) -> io::Result<()> {
     let other = Reading {
-        height: 9164,
-        pressure: 3000,
         temperature: 446,
+        ..READING
     };
     let reports = [Some(value), Some(value), None, Some(other.into())];
     for (station, report) in (1u8..).zip(reports) {

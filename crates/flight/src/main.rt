@@ -11,18 +11,20 @@ use seals::{CodeBook, SipKeys, counting_keys, counting_words};
 use std::io;
 use values::{Kind, Reading, Readings};
 
-/// The reading of the story, and its header on the way.
+/// The reading of the story.
+const READING: Reading = Reading {
+    height: 9164,
+    pressure: 3000,
+    temperature: -446,
+};
+
+/// The reading, and its header on the way.
 fn take_reading(rt: &impl Print) -> io::Result<Header> {
-    let reading = Reading {
-        height: 9164,
-        pressure: 3000,
-        temperature: -446,
-    };
-    let value = u64::from(reading);
+    let value = u64::from(READING);
     let kind = Readings.number();
     let allowed = show::yes_no(Readings.allows(value));
     println!(rt; "The reading")?;
-    println!(rt; "  {reading}")?;
+    println!(rt; "  {READING}")?;
     println!(rt; "  as 64 bits: {value:016x}")?;
     println!(rt; "  allowed in kind {kind}: {allowed}")?;
     Ok(Header {

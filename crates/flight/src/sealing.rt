@@ -28,6 +28,8 @@ pub(crate) fn tell<S: Seal>(rt: &impl Print, seal: &S, header: &Header) -> io::R
 }
 
 /// How many changes of one bit of the message make the tag wrong.
+// `relay` changes the bits of a packet likewise. One function for both would take a closure and so have a `requires`, which no
+// public function of a library here has.
 fn changes_detected<S: Seal>(seal: &S, message: &[u8; 15], tag: u64) -> usize {
     let mut detected = 0usize;
     for (i, byte) in message.iter().enumerate() {

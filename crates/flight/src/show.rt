@@ -18,7 +18,6 @@ impl fmt::Display for Report {
 }
 
 /// `yes` or `no`.
-// A function: a type of its own that is only shown would be longer.
 pub(crate) fn yes_no(answer: bool) -> &'static str {
     if answer { "yes" } else { "no" }
 }

@@ -1,12 +1,10 @@
 -- The parts of a packet's byte form, and their lengths.
-use Rattle.std.proofs.Common.{◌≡◌, ℕ, zero, suc, ◌+◌, ◌*◌, ◌<◌, ◌≤◌, false, ◌&&◌, eqb, List, [], ◌∷◌, ◌++◌, length, get_or, take, drop, sym, refl, ap, ◌∙◌, mul-le-mul_right, add-mul, one-mul, zero-mul, mul-one, mul-add, add-one, arith}
-use borrow.Rule.Slice.PartMut.{put_mid}
-use Rattle.std.proofs.lemmas.List.{append_assoc, append-nil, length-append, length_push, length-take-le, take_at}
-use Rattle.std.proofs.lemmas.Bool.{and_left}
+use Rattle.std.proofs.Common.{◌≡◌, ℕ, zero, suc, ◌+◌, ◌*◌, ◌<◌, ◌≤◌, List, [], ◌∷◌, ◌++◌, length, sym, refl, ap, ◌∙◌, mul-le-mul_right, add-mul, one-mul, zero-mul, mul-one, mul-add, add-one, arith}
+use Rattle.std.proofs.lemmas.List.{append_assoc, append-nil, length-append, length_push}
 use Rattle.packets.specs.declared.header.Header.{Header}
 use Rattle.packets.specs.Bytes.{bytes_of}
 use Rattle.packets.specs.Form.{Parts, head_bytes, tag_bytes, encode, packet_length, tag_in, tags_in}
-use Rattle.packets.specs.Tags.{sealed_bytes, tag_for, tags_for, hold_to}
+use Rattle.packets.specs.Tags.{tag_for, tags_for}
 use Rattle.packets.proofs.Writes.{bytes_of-length}
 
 -- i + 1 parts of w bytes
@@ -63,34 +61,9 @@ module _ (tag : ℕ → List ℕ → ℕ) (h : Header) (t : List ℕ) where
   tags_for-length zero = refl
   tags_for-length (suc i) = length_push (tags_for tag h t i) (tag_for tag h t i) ∙ ap (λ n. n + 1) (tags_for-length i) ∙ add-one i
 
--- what is sealed, as it is made in a buffer
-pub sealed-is : (h : Header) (t : List ℕ) (n m : ℕ) (head path : List ℕ) → n ≤ length t → head ≡ head_bytes h n → path ≡ take n t
-    → take (14 + n) (put_mid 14 m (head ++ 0 ∷ 0 ∷ 0 ∷ 0 ∷ []) path) ≡ sealed_bytes h t n
-sealed-is h t n m head path in' to-head to-path =
-    let zeros : List ℕ = 0 ∷ 0 ∷ 0 ∷ 0 ∷ [] in
-    let rest = drop m (drop 14 (head ++ zeros)) in
-    let long : length head ≡ 14 = ap length to-head ∙ head_bytes-length h n in
-    let all : length (head ++ path) ≡ 14 + n = length-append head path ∙ omega (arith, long, ap length to-path ∙ length-take-le n t in') in
-    ap (λ us. take (14 + n) (us ++ (path ++ rest))) (take_at head zeros 14 long) ∙ ap (take (14 + n)) (sym (append_assoc head path rest)) ∙ take_at (head ++ path) rest (14 + n) all
-    ∙ ap (λ us. us ++ path) to-head ∙ ap (λ us. head_bytes h n ++ us) to-path
-
 -- Tags that were read.
 
 module _ (w : ℕ) (b : List ℕ) where
-  pub tags_in-more : (i : ℕ) → tags_in w b (i + 1) ≡ tags_in w b i ++ tag_in w b i ∷ []
-  tags_in-more i = ap (tags_in w b) (add-one i)
-
   pub tags_in-length : (i : ℕ) → length (tags_in w b i) ≡ i
   tags_in-length zero = refl
   tags_in-length (suc i) = length_push (tags_in w b i) (tag_in w b i) ∙ ap (λ n. n + 1) (tags_in-length i) ∙ add-one i
-
-module _ (tag : ℕ → List ℕ → ℕ) (p : Parts) where
-  pub hold_to-more : (i : ℕ) → hold_to tag p (i + 1) ≡ (hold_to tag p i && eqb (get_or p.tags i 0) (tag_for tag p.header p.path i))
-  hold_to-more i = ap (hold_to tag p) (add-one i)
-
-  -- one tag that does not hold is enough
-  pub hold_to-later : (d i : ℕ) → hold_to tag p i ≡ false → hold_to tag p (d + i) ≡ false
-  hold_to-later zero i h = let e : 0 + i ≡ i = omega arith in ap (hold_to tag p) e ∙ h
-  hold_to-later (suc d) i h =
-      let e : suc d + i ≡ suc (d + i) = omega arith in
-      ap (hold_to tag p) e ∙ and_left (hold_to tag p (d + i)) _ (hold_to-later d i h)

@@ -22,7 +22,7 @@ pub struct Header {
 
 impl Header {
     /// Bytes 0 to 13 of a packet that says this, with `count` in byte 1.
-    pub(crate) fn bytes(&self, count: u8) -> [u8; 14]
+    pub(crate) fn bytes(&self, count: u8) -> [u8; HEADER_LEN]
         ensures { result ≡ head_bytes self.now count }
     {
         let [s0, s1] = self.sounding.to_be_bytes();

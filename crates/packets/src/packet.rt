@@ -13,8 +13,8 @@ pub struct Packet {
     /// The stations that it names as its path.
     pub row: Row,
     /// A tag for each of them.
-    // An array as long as the longest path, since library crates have no heap and a packet is kept after its bytes are gone.
-    pub(crate) tags: [u64; 4],
+    // An array as long as the longest path, since library crates have no heap and the vectors of fixed room are not `Copy`.
+    pub(crate) tags: [u64; LONGEST],
 }
 
 impl Packet {

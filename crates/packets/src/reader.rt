@@ -13,12 +13,12 @@ use seals::Seal;
 use std::array;
 
 /// Up to four bytes at the front of a row of four.
-fn four(part: &[u8]) -> [u8; 4]
+fn four(part: &[u8]) -> [u8; LONGEST]
     requires { length part.now ≤ 4 }
     ensures is { result ≡ part.now ++ drop (length part.now) (0 ∷ 0 ∷ 0 ∷ 0 ∷ []) }
     ensures front { take (length part.now) result ≡ part.now }
 {
-    let mut numbers = [0; 4];
+    let mut numbers = [0; LONGEST];
     numbers[..part.len()].copy_from_slice(part);
     numbers
 }
@@ -36,9 +36,8 @@ fn row_in(bytes: &[u8]) -> Row
     }
 }
 
-// That the bytes hold the packet is one word, `Whole`: a struct that kept it would have to carry the seal's type too.
-
 /// Tag `i` as it stands in the bytes, counted from 0.
+// That the bytes hold the packet is one word, `Whole`. A struct that kept it would be no plainer: it would carry the seal's type.
 fn tag_in<S: Seal>(bytes: &[u8], i: usize) -> u64
     requires { (i < count_in bytes.now) × Whole S.WIDTH bytes.now }
     ensures { result ≡ tag_in S.WIDTH bytes.now i }
@@ -48,7 +47,7 @@ fn tag_in<S: Seal>(bytes: &[u8], i: usize) -> u64
 }
 
 /// The tags as they stand in the bytes, and zeros behind them.
-fn tags_in<S: Seal>(bytes: &[u8]) -> [u64; 4]
+fn tags_in<S: Seal>(bytes: &[u8]) -> [u64; LONGEST]
     requires { Whole S.WIDTH bytes.now }
     ensures { take (count_in bytes.now) result ≡ tags_in S.WIDTH bytes.now (count_in bytes.now) }
 {

@@ -1,11 +1,12 @@
-ghost use Rattle.std.specs.Prelude.{◌≡◌, ◌+◌, ◌<◌, ◌≤◌, length, take};
+ghost use Rattle.std.specs.Prelude.{◌≡◌, ◌<◌, ◌≤◌, length};
 ghost use Rattle.packets.specs.Form.{parts_of};
 ghost use Rattle.packets.specs.Laws.{MadeByStations};
 ghost use Rattle.packets.specs.Tags.{sealed_bytes, tag_for, tags_for, tags_hold};
 
 use crate::header::{HEADER_LEN, Header};
+use arrayvec::ArrayVec;
+use paths::LONGEST;
 use seals::Seal;
-use std::array;
 
 /// A packet without its tags: what it says, and the stations that it has passed, at most four.
 #[derive(Clone, Copy)]
@@ -16,15 +17,16 @@ pub(crate) struct Unsealed<'a> {
 }
 
 impl Unsealed<'_> {
-    /// What tag `n` seals, counted from 1: the header with `n` in byte 1, and the first `n` stations. It stands at the front
-    /// of a buffer.
-    fn sealed_bytes(&self, n: usize) -> [u8; 18]
+    /// What tag `n` seals, counted from 1: the header with `n` in byte 1, and the first `n` stations.
+    fn sealed_bytes(&self, n: usize) -> ArrayVec<u8, 18>
         requires { n ≤ length self.now.stations.now }
-        ensures { take (14 + n) result ≡ sealed_bytes self.now.header self.now.stations.now n }
+        ensures { result.items ≡ sealed_bytes self.now.header self.now.stations.now n }
     {
-        let mut message = [0; 18];
-        message[..HEADER_LEN].copy_from_slice(&self.header.bytes(n as u8));
-        message[HEADER_LEN..HEADER_LEN + n].copy_from_slice(&self.stations[..n]);
+        let mut message = ArrayVec::new();
+        message
+            .try_extend_from_slice(&self.header.bytes(n as u8))
+            .unwrap();
+        message.try_extend_from_slice(&self.stations[..n]).unwrap();
         message
     }
 
@@ -33,21 +35,18 @@ impl Unsealed<'_> {
         requires { i < length self.now.stations.now }
         ensures { result ≡ tag_for (S.meaning seal.now) self.now.header self.now.stations.now i }
     {
-        let n = i + 1;
-        seal.tag(self.stations[i], &self.sealed_bytes(n)[..HEADER_LEN + n])
+        seal.tag(self.stations[i], &self.sealed_bytes(i + 1))
     }
 
-    /// The seal's tags of all stations, and zeros behind them.
-    pub(crate) fn tags<S: Seal>(&self, seal: &S) -> [u64; 4]
-        ensures { take (length self.now.stations.now) result ≡ tags_for (S.meaning seal.now) self.now.header self.now.stations.now (length self.now.stations.now) }
+    /// The seal's tags of all stations.
+    pub(crate) fn tags<S: Seal>(&self, seal: &S) -> ArrayVec<u64, LONGEST>
+        ensures { result.items ≡ tags_for (S.meaning seal.now) self.now.header self.now.stations.now (length self.now.stations.now) }
     {
-        array::from_fn(|i| {
-            if i < self.stations.len() {
-                self.tag(seal, i)
-            } else {
-                0
-            }
-        })
+        let mut tags = ArrayVec::new();
+        for i in 0..self.stations.len() {
+            tags.push(self.tag(seal, i));
+        }
+        tags
     }
 
     /// Whether these are the seal's tags of all stations.
@@ -57,6 +56,6 @@ impl Unsealed<'_> {
         ensures is { result ≡ tags_hold (S.meaning seal.now) (parts_of self.now.header self.now.stations.now tags.now) }
         ensures made { MadeByStations (S.meaning seal.now) (parts_of self.now.header self.now.stations.now tags.now) }
     {
-        tags == &self.tags(seal)[..tags.len()]
+        tags == self.tags(seal).as_slice()
     }
 }

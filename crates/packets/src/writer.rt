@@ -38,9 +38,10 @@ impl Unsealed<'_> {
         let k = self.stations.len();
         place[..HEADER_LEN].copy_from_slice(&self.header.bytes(k as u8));
         place[HEADER_LEN..HEADER_LEN + k].copy_from_slice(self.stations);
-        // The place is counted by hand: the proof knows nothing of what a loop writes through `chunks_exact_mut`.
+        // The place is counted by hand. Tried: the proof knows nothing of what a loop writes through `chunks_exact_mut`.
         let mut at = HEADER_LEN + k;
-        for tag in &self.tags(seal)[..k] {
+        let tags = self.tags(seal);
+        for tag in tags.as_slice() {
             put_number(&mut place[at..at + S::WIDTH], *tag);
             at += S::WIDTH;
         }

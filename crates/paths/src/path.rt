@@ -1,4 +1,4 @@
-ghost use Rattle.std.specs.Prelude.{◌≡◌, ◌==◌, ◌↔◌, true, false, [], ◌∷◌, length, take, IsTrue, IsErrOf};
+ghost use Rattle.std.specs.Prelude.{◌≡◌, ◌==◌, ◌≢◌, ◌↔◌, true, false, [], ◌∷◌, length, take, IsTrue, IsErrOf};
 ghost use Rattle.std.specs.Cmp.{partial_order_from_own_ties};
 ghost use Rattle.std.specs.Cmp.Lexicographic.{pointwise};
 ghost use Rattle.std.specs.Cmp.Rules.{comparing};
@@ -13,7 +13,7 @@ use std::fmt;
 
 /// A path: the stations that a packet has passed. They are one to four, no station is named twice, and `first` is the
 /// first of them.
-// A length beside an array, since library crates have no heap.
+// A length beside an array, since library crates have no heap and the vectors of fixed room are not `Copy`.
 #[derive(Clone, Copy, Debug)]
 pub struct Path {
     numbers: [u8; LONGEST],
@@ -25,7 +25,7 @@ pub struct Path {
     ghost begins: { first_of (take len numbers) ≡ first },
 }
 
-/// Why there is no path in a row.
+/// Why stations are no path.
 #[derive(Clone, Copy, Debug, PartialEq, Eq, thiserror::Error)]
 pub enum NotAPath {
     /// Its length is not 1 to 4.
@@ -79,6 +79,7 @@ impl From<Path> for Row {
 
     ghost from_gives = { λ path row. row ≡ row_of path };
 
+    /// The path as a plain row.
     fn from(path: Path) -> Row
         ensures is { result ≡ row_of path }
         ensures stations { row_stations result ≡ stations path }
@@ -141,16 +142,21 @@ impl Path {
         self.stations().contains(&station)
     }
 
-    /// The path with one more station; none if it has four already or names that station.
-    pub fn with(&self, station: u8) -> Option<Path>
-        ensures { stations_in result ≡ extended (stations self.now) station }
+    /// The path with one more station. Whether it has four already is looked at first.
+    pub fn with(&self, station: u8) -> Result<Path, NotAPath>
+        ensures path { stations_in (result_ok result) ≡ extended (stations self.now) station }
+        ensures length { IsErrOf result NotAPath.Length ↔ (length (stations self.now) ≡ 4) }
+        ensures twice { IsErrOf result NotAPath.StationTwice ↔ ((length (stations self.now) ≢ 4) × (names (stations self.now) station ≡ true)) }
     {
-        if self.len == LONGEST || self.contains(station) {
-            return None;
+        if self.len == LONGEST {
+            return Err(NotAPath::Length);
+        }
+        if self.contains(station) {
+            return Err(NotAPath::StationTwice);
         }
         let mut numbers = self.numbers;
         numbers[self.len] = station;
-        Some(Path {
+        Ok(Path {
             numbers,
             len: self.len + 1,
             first: self.first,
@@ -159,6 +165,7 @@ impl Path {
 }
 
 /// The stations, parted by spaces.
+// The programs show bytes in a loop like this: the format of an element can't be a parameter.
 impl fmt::Display for Path {
     fn fmt<W: fmt::Write>(&self, f: &mut fmt::Formatter<W>) -> fmt::Result {
         for (i, station) in self.stations().iter().enumerate() {
@@ -202,6 +209,7 @@ impl Ord for Path {
 
     ghost matches_eq = { Prim.search (comparing, rules) };
 
+    /// The order of paths, station by station; where one begins with the other, the shorter comes first.
     fn cmp(&self, other: &Path) -> Ordering
         ensures { result ≡ compared (stations self.now) (stations other.now) }
     {

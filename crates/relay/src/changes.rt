@@ -2,7 +2,7 @@ use crate::receive::{Heard, Refused, receive};
 use seals::Seal;
 
 /// What came of changing each bit of a packet in turn.
-#[derive(Clone, Copy)]
+#[derive(Clone, Copy, Default)]
 pub struct Changes {
     pub bytes: u32,
     pub path: u32,
@@ -11,17 +11,9 @@ pub struct Changes {
 }
 
 impl Changes {
-    /// No change yet.
-    const NONE: Changes = Changes {
-        bytes: 0,
-        path: 0,
-        tag: 0,
-        taken: 0,
-    };
-
     /// Changes each bit of a packet, counts what a receiver says, and changes it back.
     pub(crate) fn of<S: Seal>(seal: &S, packet: &mut [u8]) -> Changes {
-        let mut changes = Changes::NONE;
+        let mut changes = Changes::default();
         // An index, since the receiver reads the whole packet while one of its bytes is changed.
         for i in 0..packet.len() {
             for mask in [1, 2, 4, 8, 16, 32, 64, 128] {

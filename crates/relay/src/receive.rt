@@ -10,6 +10,7 @@ pub struct Heard {
 }
 
 /// Why a station refuses what it received.
+// `damaged` has an enum like this: one for both would be no plainer, as one of them would have to wrap it to show other words.
 #[derive(Clone, Copy, PartialEq, Eq, Debug, thiserror::Error)]
 pub enum Refused {
     /// The bytes are no packet.

@@ -1,11 +1,10 @@
 use crate::changes::Changes;
 use crate::receive::receive;
-use anyhow::Context;
 use console::Hex;
 use packets::{Header, packet_length, write};
 use paths::Path;
 use seals::Seal;
-use std::alloc::Global;
+use std::alloc::{AllocError, Global};
 use std::io;
 
 /// A packet goes from its sender through stations 1 to 3, and station 4 hears it. Then it is damaged in each way that one bit
@@ -27,15 +26,16 @@ pub(crate) fn tell<S: Seal>(
 }
 
 /// The packet that says what the header says and has the path's stations and their tags.
+// `damaged` makes its packets likewise. A library can't do it for both, since libraries here have no heap.
 fn packet_by<S: Seal>(
     alloc: Global,
     seal: &S,
     header: Header,
     path: &Path,
-) -> anyhow::Result<Vec<u8>> {
-    let length = packet_length::<S>(path.len()).context("the path is too long")?;
+) -> Result<Vec<u8>, AllocError> {
+    let length = packet_length::<S>(path.len()).unwrap();
     let mut bytes = vec![in alloc; 0; length]?;
-    write(seal, header, path, &mut bytes, 0).context("the packet is too long")?;
+    write(seal, header, path, &mut bytes, 0).unwrap();
     Ok(bytes)
 }
 
@@ -57,7 +57,7 @@ fn hear<S: Seal>(
         "  station {station} finds it good, by way of {}",
         heard.path
     )?;
-    let Some(path) = heard.path.with(station) else {
+    let Ok(path) = heard.path.with(station) else {
         println!(rt; "  station {station} relays nothing: the path is full")?;
         return Ok(None);
     };

@@ -7,6 +7,7 @@ use std::convert::AsSlice;
 
 /// The code-book seal: a book of 256 words of 16 bits for each station, in one list by station number. `W` is what holds or
 /// lends the list.
+// A type parameter: the check knows no width, as a constant, of a seal whose type has a lifetime of its own.
 #[derive(Clone, Copy)]
 pub struct CodeBook<W> {
     words: W,

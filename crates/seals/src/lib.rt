@@ -1,7 +1,7 @@
 //! Seals: message authentication codes by which a station vouches for what it sends.
 //!
 //! A seal gives each station a tag over a message. The tag has a fixed number of bytes, a constant of the seal.
-//! `CodeBook` has tags of two bytes, made from books of words that the caller lends; `SipHash` has tags of eight
+//! `CodeBook` has tags of two bytes, made from books of words that the caller lends; `SipKeys` has tags of eight
 //! bytes, SipHash-2-4 under a key for each station. Code that is generic over `Seal` is proved once for both.
 #![tactic(auto)]
 

@@ -28,10 +28,9 @@ impl Seal for SipKeys {
     ghost meaning = { λ s j m. sip_tag s.keys j m };
 
     fn tag(&self, station: u8, message: &[u8]) -> u64 {
-        match self.keys.get(station as usize) {
-            Some(key) => key.hash(message),
-            None => 0,
-        }
+        self.keys
+            .get(usize::from(station))
+            .map_or(0, |key| key.hash(message))
     }
 
     ghost low = { lit≤ tt };

@@ -65,6 +65,7 @@ impl Notices {
     pub const NUMBER: u8 = 2;
 }
 
+// Like `Kind` for `Readings` but for what it allows: a macro or a wrapper type for both would be no plainer.
 impl Kind for Notices {
     ghost number = { λ _. 2 };
 

@@ -61,16 +61,24 @@ impl Reading {
 impl fmt::Display for Reading {
     fn fmt<W: fmt::Write>(&self, f: &mut fmt::Formatter<W>) -> fmt::Result {
         let height = self.height;
-        let pressure = self.pressure;
-        let sign = if self.temperature < 0 { "-" } else { "" };
-        let tenths = self.temperature.unsigned_abs();
+        let pressure = Tenths(self.pressure.into());
+        let temperature = Tenths(self.temperature.into());
         write!(
             f,
-            "height {height} m, pressure {}.{} hPa, ",
-            pressure / 10,
-            pressure % 10
-        )?;
-        write!(f, "temperature {sign}{}.{} °C", tenths / 10, tenths % 10)
+            "height {height} m, pressure {pressure} hPa, temperature {temperature} °C"
+        )
+    }
+}
+
+/// A number of tenths, as a decimal fraction.
+#[derive(Clone, Copy)]
+struct Tenths(i32);
+
+impl fmt::Display for Tenths {
+    fn fmt<W: fmt::Write>(&self, f: &mut fmt::Formatter<W>) -> fmt::Result {
+        let sign = if self.0 < 0 { "-" } else { "" };
+        let tenths = self.0.unsigned_abs();
+        write!(f, "{sign}{}.{}", tenths / 10, tenths % 10)
     }
 }
 
