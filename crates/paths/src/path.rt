@@ -149,18 +149,18 @@ impl Path {
         ensures twice { IsErrOf result NotAPath.StationTwice ↔ ((length (stations self.now) ≢ 4) × (names (stations self.now) station ≡ true)) }
     {
         if self.len == LONGEST {
-            return Err(NotAPath::Length);
+            Err(NotAPath::Length)
+        } else if self.contains(station) {
+            Err(NotAPath::StationTwice)
+        } else {
+            let mut numbers = self.numbers;
+            numbers[self.len] = station;
+            Ok(Path {
+                numbers,
+                len: self.len + 1,
+                first: self.first,
+            })
         }
-        if self.contains(station) {
-            return Err(NotAPath::StationTwice);
-        }
-        let mut numbers = self.numbers;
-        numbers[self.len] = station;
-        Ok(Path {
-            numbers,
-            len: self.len + 1,
-            first: self.first,
-        })
     }
 }
 
