@@ -43,6 +43,7 @@ impl Unsealed<'_> {
         ensures { result.items ≡ tags_for (S.meaning seal.now) self.now.header self.now.stations.now (length self.now.stations.now) }
     {
         let mut tags = ArrayVec::new();
+        // By numbers, as a tag seals the stations up to its own: over the stations themselves it would be no plainer.
         for i in 0..self.stations.len() {
             tags.push(self.tag(seal, i));
         }
