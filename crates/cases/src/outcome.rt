@@ -12,6 +12,7 @@ impl fmt::Display for Bits {
 }
 
 /// Whether a value is allowed, in words.
+// A function to a text: a type with `Display` for two words would be longer and no plainer.
 pub(crate) fn allowed(is: bool) -> &'static str {
     if is { "allowed" } else { "not allowed" }
 }

@@ -1,4 +1,5 @@
 use crate::outcome::Bits;
+use crate::vectors::PUBLISHED_KEY;
 use console::Tally;
 use seals::{CodeBook, Seal, SipKeys, counting_words, worked_tags};
 use siphash::{Key, published_hash};
@@ -33,7 +34,7 @@ fn code_book<P: Print>(tally: &mut Tally<P>, seal: &CodeBook<&[u16]>) -> io::Res
 /// SipHash with the published key at station 6, at the station numbers 5 to 7.
 fn sip_hash<P: Print>(tally: &mut Tally<P>) -> io::Result<()> {
     let mut keys = [Key::new(&[0; 16]); 7];
-    keys[6] = Key::new(&[0, 1, 2, 3, 4, 5, 6, 7, 8, 9, 10, 11, 12, 13, 14, 15]);
+    keys[6] = Key::new(&PUBLISHED_KEY);
     let seal = SipKeys::new(keys);
     let message = [0, 1, 2];
     let last = seal.tag(6, &message);

@@ -5,6 +5,9 @@ use siphash::Key;
 use std::rt::Files;
 use std::{array, fs};
 
+/// The key of the published vectors.
+pub(crate) const PUBLISHED_KEY: [u8; 16] = [0, 1, 2, 3, 4, 5, 6, 7, 8, 9, 10, 11, 12, 13, 14, 15];
+
 /// The published SipHash vectors, one line each: the message's length and its hash in hexadecimal.
 pub(crate) fn run<R: Files + Alloc, P: Print>(rt: &R, tally: &mut Tally<P>) -> anyhow::Result<()> {
     let text = fs::read_to_string(rt, "siphash-2-4.txt")?;
@@ -31,6 +34,6 @@ fn vector<P: Print>(tally: &mut Tally<P>, line: &str) -> anyhow::Result<()> {
 /// The hash of the bytes 0, 1, .. of the given length under the key of the bytes 0 to 15; none if it is above 64.
 fn counting_hash(length: usize) -> Option<u64> {
     let bytes: [u8; 64] = array::from_fn(|i| i as u8);
-    let key = Key::new(&[0, 1, 2, 3, 4, 5, 6, 7, 8, 9, 10, 11, 12, 13, 14, 15]);
+    let key = Key::new(&PUBLISHED_KEY);
     bytes.get(..length).map(|message| key.hash(message))
 }

@@ -1,7 +1,7 @@
 use std::fmt;
 
 /// Bytes in hexadecimal, parted by spaces.
-// A `Path` shows its stations in a loop like this: the format of an element can't be a parameter.
+// A `Path` shows its stations in a loop like this. One for both would take a trait for how an element is shown: no plainer.
 #[derive(Clone, Copy)]
 pub struct Hex<'a>(pub &'a [u8]);
 

@@ -9,7 +9,7 @@ use std::io;
 #[derive(Drop)]
 pub struct Tally<'a, P> {
     rt: &'a P,
-    pub counts: Counts,
+    counts: Counts,
 }
 
 /// Why a tally is not closed well.

@@ -6,6 +6,7 @@ use seals::{CodeBook, Seal, SipKeys, counting_keys, counting_words};
 use std::alloc::Global;
 
 /// Packets under both seals.
+// The tally and the allocator stay two parameters: a struct of both would be taken apart at each call, and be no plainer.
 pub(crate) fn run<P: Print>(tally: &mut Tally<P>, alloc: Global) -> anyhow::Result<()> {
     let words = counting_words();
     under(tally, alloc, &CodeBook::new(&words), &BY_CODE_BOOK)?;

@@ -3,6 +3,8 @@ use paths::{NotAPath, Path, Row};
 use std::cmp::Ordering;
 use std::io;
 
+// Functions to a text, here and for yes and no elsewhere: types with `Display` for two or three words would be longer and no plainer.
+
 /// Whether there is a path, in words.
 fn found(is: bool) -> &'static str {
     if is { "a path" } else { "no path" }

@@ -3,6 +3,7 @@ use packets::Malformed;
 use std::fmt;
 
 /// How many were accepted, and how many were refused by each check.
+// `relay` counts by coarser reasons: one type for both would need a map from reasons to counters, and be no plainer.
 #[derive(Clone, Copy, PartialEq, Eq, Default)]
 pub struct Reads {
     pub accepted: u32,

@@ -18,6 +18,7 @@ pub struct Sample<'a, S> {
 
 impl<'a, S: Seal> Sample<'a, S> {
     /// The notice with a path.
+    // `relay` makes its packets likewise. A library can't do it for both, since libraries here have no heap.
     pub(crate) fn new(alloc: Global, seal: &'a S, path: &Path) -> Result<Self, AllocError> {
         let length = packet_length::<S>(path.len()).unwrap();
         let mut packet = vec![in alloc; 0; length]?;
@@ -30,6 +31,7 @@ impl<'a, S: Seal> Sample<'a, S> {
         let mut bytes = self.packet.clone()?;
         bytes.resize(LONGEST_READ, 0)?;
         let mut reads = Reads::default();
+        // By lengths, as each read takes a longer part of the same bytes.
         for length in 0..=LONGEST_READ {
             reads.count(check(self.seal, &bytes[..length]));
         }

@@ -28,10 +28,10 @@ pub(crate) fn tell<S: Seal>(rt: &impl Print, seal: &S, header: &Header) -> io::R
 }
 
 /// How many changes of one bit of the message make the tag wrong.
-// `relay` changes the bits of a packet likewise. One function for both would take a closure and so have a `requires`, which no
-// public function of a library here has.
+// `relay` changes bits likewise: one function for both would take a closure and have a `requires`, as no public function here has.
 fn changes_detected<S: Seal>(seal: &S, message: &[u8; 15], tag: u64) -> usize {
     let mut detected = 0usize;
+    // Counted in loops: a chain over places and masks would need a closure in a closure, with a copy in it, and be no plainer.
     for (i, byte) in message.iter().enumerate() {
         for mask in [1, 2, 4, 8, 16, 32, 64, 128] {
             let mut changed = *message;

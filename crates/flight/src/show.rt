@@ -2,6 +2,7 @@ use std::fmt;
 use values::Reading;
 
 /// A value or none, as a reading.
+// `cases` shows a value or none too: how the value is shown is all that there is to either.
 #[derive(Clone, Copy)]
 pub struct Report(pub Option<u64>);
 
@@ -18,6 +19,7 @@ impl fmt::Display for Report {
 }
 
 /// `yes` or `no`.
+// A function to a text: a type with `Display` for two words would be longer and no plainer.
 pub(crate) fn yes_no(answer: bool) -> &'static str {
     if answer { "yes" } else { "no" }
 }

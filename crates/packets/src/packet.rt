@@ -13,7 +13,7 @@ pub struct Packet {
     /// The stations that it names as its path.
     pub row: Row,
     /// A tag for each of them.
-    // An array as long as the longest path, since library crates have no heap and the vectors of fixed room are not `Copy`.
+    // An array as long as the longest path: fixed memory, and a vector of fixed room is not `Copy`, as a packet is.
     pub(crate) tags: [u64; LONGEST],
 }
 

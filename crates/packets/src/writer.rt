@@ -1,7 +1,7 @@
-ghost use Rattle.std.specs.Prelude.{◌≡◌, ◌+◌, ◌≤◌, true, length};
+ghost use Rattle.std.specs.Prelude.{◌≡◌, ◌+◌, ◌≤◌, length};
 ghost use Rattle.packets.specs.Calls.{length_for, placed, WrittenWithin};
 ghost use Rattle.packets.specs.Form.{encode, packet_length};
-ghost use Rattle.packets.specs.Laws.{ReadsBack, Stands, WrittenBack};
+ghost use Rattle.packets.specs.Laws.{WrittenBack};
 ghost use Rattle.packets.specs.Tags.{sealed_parts};
 ghost use Rattle.paths.specs.Paths.{stations};
 

@@ -13,7 +13,7 @@ use std::fmt;
 
 /// A path: the stations that a packet has passed. They are one to four, no station is named twice, and `first` is the
 /// first of them.
-// A length beside an array, since library crates have no heap and the vectors of fixed room are not `Copy`.
+// A length beside an array: fixed memory, and a vector of fixed room is not `Copy`, as a path is.
 #[derive(Clone, Copy, Debug)]
 pub struct Path {
     numbers: [u8; LONGEST],
@@ -77,7 +77,7 @@ impl TryFrom<Row> for Path {
 impl From<Path> for Row {
     ghost use Rattle.paths.specs.Paths.{stations, row_stations, row_of};
 
-    ghost from_gives = { λ path row. row ≡ row_of path };
+    ghost from_gives = { λ path row. (row ≡ row_of path) × (row_stations row ≡ stations path) × (row.len ≡ length (stations path)) };
 
     /// The path as a plain row.
     fn from(path: Path) -> Row
@@ -165,7 +165,7 @@ impl Path {
 }
 
 /// The stations, parted by spaces.
-// The programs show bytes in a loop like this: the format of an element can't be a parameter.
+// The programs show bytes in a loop like this. One for both would take a trait for how an element is shown: no plainer.
 impl fmt::Display for Path {
     fn fmt<W: fmt::Write>(&self, f: &mut fmt::Formatter<W>) -> fmt::Result {
         for (i, station) in self.stations().iter().enumerate() {

@@ -5,8 +5,7 @@ ghost use Rattle.paths.specs.Paths.{row_stations};
 pub const LONGEST: usize = 4;
 
 /// Station numbers as they were read: the first `len` of `numbers`. Nothing else is known of them.
-// A length beside an array, since library crates have no heap and the vectors of fixed room are not `Copy`; a slice won't do,
-// as a row outlives the bytes that it was read from.
+// A length beside an array: fixed memory, and a vector of fixed room is not `Copy`, as a row is.
 #[derive(Clone, Copy, Debug)]
 pub struct Row {
     pub numbers: [u8; LONGEST],

@@ -12,6 +12,7 @@ use values::{Kind, Reading, Readings};
 
 fn main(rt: HostRuntime) -> anyhow::Result<()> {
     println!(rt; "Sounding 1, level 7, sender 0")?;
+    // The reading of `flight`, which tells of the same level: a library for one constant would be no plainer.
     let reading = Reading {
         height: 9164,
         pressure: 3000,

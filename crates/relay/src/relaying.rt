@@ -2,10 +2,12 @@ use crate::changes::Changes;
 use crate::receive::receive;
 use console::Hex;
 use packets::{Header, packet_length, write};
-use paths::Path;
+use paths::{NotAPath, Path};
 use seals::Seal;
 use std::alloc::{AllocError, Global};
 use std::io;
+
+// The runtime and the seal stay two parameters here: a struct of both would be taken apart at each call, and be no plainer.
 
 /// A packet goes from its sender through stations 1 to 3, and station 4 hears it. Then it is damaged in each way that one bit
 /// allows.
@@ -57,9 +59,16 @@ fn hear<S: Seal>(
         "  station {station} finds it good, by way of {}",
         heard.path
     )?;
-    let Ok(path) = heard.path.with(station) else {
-        println!(rt; "  station {station} relays nothing: the path is full")?;
-        return Ok(None);
+    let path = match heard.path.with(station) {
+        Ok(path) => path,
+        Err(NotAPath::Length) => {
+            println!(rt; "  station {station} relays nothing: the path is full")?;
+            return Ok(None);
+        }
+        Err(NotAPath::StationTwice) => {
+            println!(rt; "  station {station} relays nothing: the path names it already")?;
+            return Ok(None);
+        }
     };
     let relayed = packet_by(rt.alloc(), seal, heard.header, &path)?;
     println!(rt; "  station {station} relays {}", Hex(&relayed))?;

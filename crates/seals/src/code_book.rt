@@ -7,7 +7,7 @@ use std::convert::AsSlice;
 
 /// The code-book seal: a book of 256 words of 16 bits for each station, in one list by station number. `W` is what holds or
 /// lends the list.
-// A type parameter: the check knows no width, as a constant, of a seal whose type has a lifetime of its own.
+// A type parameter. Tried: for a seal whose type has a lifetime of its own the check has no contract of its constant.
 #[derive(Clone, Copy)]
 pub struct CodeBook<W> {
     words: W,
@@ -36,6 +36,7 @@ impl<W: AsSlice<u16>> CodeBook<W> {
         ensures { result ≡ carried (W.items self.now.words) station 0 message.now }
     {
         let mut tag = 0;
+        // A loop, as the rules of the project ask for one over the bytes.
         for byte in message {
             tag = mix(tag, self.word(station, *byte));
         }

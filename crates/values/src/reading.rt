@@ -91,6 +91,7 @@ impl Readings {
     pub const NUMBER: u8 = 1;
 }
 
+// Like `Kind` for `Notices` but for what it allows: a macro or a wrapper type for both would be no plainer.
 impl Kind for Readings {
     ghost number = { λ _. 1 };
 
