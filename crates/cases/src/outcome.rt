@@ -18,6 +18,7 @@ pub(crate) fn allowed(is: bool) -> &'static str {
 }
 
 /// A value or none.
+// `flight` shows a value or none too: how the value is shown is all that there is to either.
 #[derive(Clone, Copy, PartialEq, Eq)]
 pub struct Choice(pub Option<u64>);
 
