@@ -12,17 +12,19 @@ mod shown;
 mod worked_cases;
 
 use console::Tally;
-use std::alloc::Global;
+use seals::{CodeBook, counting_words};
 
-fn run(rt: &impl Print, alloc: Global) -> anyhow::Result<()> {
+fn run(rt: &impl Print) -> anyhow::Result<()> {
     let mut tally = Tally::new(rt);
+    let words = counting_words();
+    let code_book = CodeBook::new(&words);
     path_cases::run(&mut tally)?;
-    packet_cases::run(&mut tally, alloc)?;
-    worked_cases::run(&mut tally, alloc)?;
+    packet_cases::run(&mut tally, &code_book)?;
+    worked_cases::run(&mut tally, &code_book)?;
     tally.close()?;
     Ok(())
 }
 
 fn main(rt: HostRuntime) -> anyhow::Result<()> {
-    run(&rt, rt.alloc())
+    run(&rt)
 }

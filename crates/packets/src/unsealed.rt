@@ -51,12 +51,14 @@ impl Unsealed<'_> {
     }
 
     /// Whether these are the seal's tags of all stations.
-    #[tactic(auto, using(crate::proofs::Held::held, crate::proofs::Held::made))]
+    #[tactic(auto, using(crate::proofs::Held::made))]
     pub(crate) fn has_tags<S: Seal>(&self, seal: &S, tags: &[u64]) -> bool
         requires { length tags.now ≡ length self.now.stations.now }
         ensures is { result ≡ tags_hold (S.meaning seal.now) (parts_of self.now.header self.now.stations.now tags.now) }
         ensures made { MadeByStations (S.meaning seal.now) (parts_of self.now.header self.now.stations.now tags.now) }
     {
-        tags == self.tags(seal).as_slice()
+        tags.iter()
+            .enumerate()
+            .all(|(i, tag)| *tag == self.tag(seal, i))
     }
 }

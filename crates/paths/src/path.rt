@@ -1,4 +1,4 @@
-ghost use Rattle.std.specs.Prelude.{◌≡◌, ◌==◌, ◌≢◌, ◌↔◌, true, false, [], ◌∷◌, length, take, IsTrue, IsErrOf};
+ghost use Rattle.std.specs.Prelude.{◌≡◌, ◌<◌, ◌==◌, ◌≢◌, ◌↔◌, true, false, [], ◌∷◌, length, take, slice_index, IsTrue, IsErrOf};
 ghost use Rattle.std.specs.Cmp.{partial_order_from_own_ties};
 ghost use Rattle.std.specs.Cmp.Lexicographic.{pointwise};
 ghost use Rattle.std.specs.Cmp.Rules.{comparing};
@@ -36,14 +36,27 @@ pub enum NotAPath {
     StationTwice,
 }
 
+/// Whether a station is among those of a list.
+// By a chain, which is in place: `contains` of a slice is a call, made for long ones, and takes several times as long for four.
+fn among(stations: &[u8], station: u8) -> bool
+    ensures { result ≡ names stations.now station }
+{
+    stations.iter().any(|named| *named == station)
+}
+
+/// Whether the station at a place is named before it.
+fn is_named_before(stations: &[u8], at: usize) -> bool
+    requires { at < length stations.now }
+    ensures { result ≡ names (take at stations.now) (slice_index stations.now at) }
+{
+    among(&stations[..at], stations[at])
+}
+
 /// Whether no station is named twice.
 fn are_distinct(stations: &[u8]) -> bool
     ensures { result ≡ distinct stations.now }
 {
-    match stations {
-        [] => true,
-        [first, rest @ ..] => !rest.contains(first) && are_distinct(rest),
-    }
+    (0..stations.len()).all(|at| !is_named_before(stations, at))
 }
 
 impl TryFrom<Row> for Path {
@@ -139,7 +152,7 @@ impl Path {
     pub fn contains(&self, station: u8) -> bool
         ensures { result ≡ names (stations self.now) station }
     {
-        self.stations().contains(&station)
+        among(self.stations(), station)
     }
 
     /// The path with one more station. Whether it has four already is looked at first.
