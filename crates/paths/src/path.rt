@@ -1,11 +1,11 @@
-ghost use Rattle.std.specs.Prelude.{◌≡◌, ◌<◌, ◌==◌, ◌≢◌, ◌↔◌, true, false, [], ◌∷◌, length, take, slice_index, IsTrue, IsErrOf};
+ghost use Rattle.std.specs.Prelude.{◌≡◌, ◌<◌, ◌==◌, ◌≢◌, ◌↔◌, true, false, [], ◌∷◌, length, take, slice_index, Some, IsTrue, IsErrOf};
 ghost use Rattle.std.specs.Cmp.{partial_order_from_own_ties};
 ghost use Rattle.std.specs.Cmp.Lexicographic.{pointwise};
 ghost use Rattle.std.specs.Cmp.Rules.{comparing};
 ghost use Rattle.std.specs.Ordering.{on, as_partial_cmp};
 ghost use Rattle.std.specs.Result.{result_ok};
 ghost use Rattle.std.proofs.Common.{rules};
-ghost use Rattle.paths.specs.Stations.{names, distinct, first_of, last_of, extended, compared, IsPathLength};
+ghost use Rattle.paths.specs.Stations.{names, distinct, first_of, last_of, extended, compared, IsPathLength, stations_text};
 
 use crate::row::{LONGEST, Row};
 use std::cmp::Ordering;
@@ -178,14 +178,18 @@ impl Path {
 }
 
 /// The stations, parted by spaces.
-// The programs show bytes in a loop like this. One for both would take a trait for how an element is shown: no plainer.
+// The programs show bytes likewise. One for both would take a trait for how an element is shown: no plainer.
 impl fmt::Display for Path {
+    ghost use Rattle.paths.specs.Paths.{stations};
+
+    ghost output = { λ path. Some (stations_text (stations path)) };
+
     fn fmt<W: fmt::Write>(&self, f: &mut fmt::Formatter<W>) -> fmt::Result {
-        for (i, station) in self.stations().iter().enumerate() {
-            if i > 0 {
-                f.write_str(" ")?;
+        if let [first, rest @ ..] = self.stations() {
+            write!(f, "{first}")?;
+            for station in rest {
+                write!(f, " {station}")?;
             }
-            write!(f, "{station}")?;
         }
         Ok(())
     }
