@@ -10,6 +10,6 @@ padded-two numeral =
     let missing : 2 - length numeral - 0 - 0 ≡ 2 - length numeral = omega arith in
     ap (λ n. replicate n 48 ++ (numeral ++ [])) missing ∙ ap (λ xs. replicate (2 - length numeral) 48 ++ xs) (append-nil numeral)
 
-pub styled-byte : (d s : _) (b : ℕ) → s ≡ format_spec 32 0 4 2 (2 ^ 64 - 1) → digits_output d ≡ Some (digits 16 false b) → styled_digits_output d s ≡ Some (byte_text b)
-styled-byte d s b options shown =
+pub styled_byte : (d s : _) (b : ℕ) → s ≡ format_spec 32 0 4 2 (2 ^ 64 - 1) → digits_output d ≡ Some (digits 16 false b) → styled_digits_output d s ≡ Some (byte_text b)
+styled_byte d s b options shown =
     ap (styled_digits_output d) options ∙ ap (option_map (padded_integral (format_spec 32 0 4 2 (2 ^ 64 - 1)) false [])) shown ∙ ap Some (padded-two (digits 16 false b))

@@ -1,5 +1,5 @@
 ghost use Rattle.std.specs.Prelude.{Some};
-ghost use Rattle.console.specs.Hexadecimal.{hex_text};
+ghost use Rattle.console.specs.Hexadecimal.{byte_text, hex_text};
 
 use std::fmt;
 
@@ -13,11 +13,24 @@ impl fmt::Display for Hex<'_> {
 
     fn fmt<W: fmt::Write>(&self, f: &mut fmt::Formatter<W>) -> fmt::Result {
         if let [first, rest @ ..] = self.0 {
-            write!(f, "{first:02x}")?;
+            write!(f, "{}", Byte(*first))?;
             for byte in rest {
-                write!(f, " {byte:02x}")?;
+                write!(f, " {}", Byte(*byte))?;
             }
         }
         Ok(())
+    }
+}
+
+/// A byte in hexadecimal, with two digits.
+#[derive(Clone, Copy)]
+struct Byte(u8);
+
+impl fmt::Display for Byte {
+    ghost output = { λ byte. Some (byte_text byte.0) };
+
+    #[tactic(auto, using(crate::proofs::Digits::styled_byte))]
+    fn fmt<W: fmt::Write>(&self, f: &mut fmt::Formatter<W>) -> fmt::Result {
+        write!(f, "{:02x}", self.0)
     }
 }

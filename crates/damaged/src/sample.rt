@@ -4,6 +4,7 @@ use arrayvec::ArrayVec;
 use packets::write;
 use paths::Path;
 use seals::Seal;
+use std::mem;
 use worked::NOTICE;
 
 /// How many bytes the longest packet takes: a path of four stations, and tags of eight bytes.
@@ -19,17 +20,17 @@ pub struct Sample<'a, S> {
     packet: ArrayVec<u8, LONGEST_PACKET>,
 }
 
-/// Checks the bytes with another byte at a place, and puts the old one back.
+/// Checks the bytes with another byte at a place, and puts the old one back; as they are, if there is no such place.
 fn check_with<S: Seal>(
     seal: &S,
     bytes: &mut [u8],
     at: usize,
     value: u8,
 ) -> Result<Accepted, Refused> {
-    let Some(byte) = bytes.get(at).copied() else {
+    if at >= bytes.len() {
         return check(seal, bytes);
-    };
-    bytes[at] = value;
+    }
+    let byte = mem::replace(&mut bytes[at], value);
     let checked = check(seal, bytes);
     bytes[at] = byte;
     checked

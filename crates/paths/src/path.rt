@@ -37,7 +37,7 @@ pub enum NotAPath {
 }
 
 /// Whether a station is among those of a list.
-// By a chain, which is in place: `contains` of a slice is a call, made for long ones, and takes several times as long for four.
+// A chain, which the compiler puts in place: `contains` of a slice is a call, and takes several times as long for four stations.
 fn among(stations: &[u8], station: u8) -> bool
     ensures { result ≡ names stations.now station }
 {

@@ -1,8 +1,8 @@
 -- Lists of reports, each a value or none, and what the rules make of them.
 use Rattle.std.specs.Prelude.{◌≡◌, ℕ, ◌*◌, ◌<◌, Bool, List, ◌∷◌, length, Some, None, Option, ◌==◌, nat_eq, nat_lt, if◌then◌else◌}
 use Rattle.std.specs.Prelude.{slice_get, option_and_then, count_by, find}
-use Rattle.std.specs.List.{filter_map, list_all}
-use Rattle.std.specs.Option.{option_eq}
+use Rattle.std.specs.List.{flat_map, list_all}
+use Rattle.std.specs.Option.{option_eq, option_to_list}
 
 -- the value v stands in the list
 pub data Reported (v : ℕ) : List (Option ℕ) → Type 0 where
@@ -15,7 +15,7 @@ Exactly r P = (v : ℕ) → (r ≡ Some v → P v) × (P v → r ≡ Some v)
 
 -- the reports that are values, in their order
 abbrev pub reported_values : List (Option ℕ) → List ℕ
-reported_values rs = filter_map (λ r. r) rs
+reported_values rs = flat_map option_to_list rs
 
 -- Sole.
 

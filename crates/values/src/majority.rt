@@ -8,13 +8,6 @@ use crate::choice::ChoiceRule;
 #[derive(Clone, Copy)]
 pub struct Majority;
 
-/// How many reports are values.
-fn count_values(reports: &[Option<u64>]) -> usize
-    ensures { result ≡ values reports.now }
-{
-    reports.iter().filter_map(|report| *report).count()
-}
-
 /// How many reports are the value `value`.
 fn votes(reports: &[Option<u64>], value: u64) -> usize
     ensures count { result ≡ votes value reports.now }
@@ -42,7 +35,8 @@ fn leader(reports: &[Option<u64>], total: usize) -> Option<u64>
 {
     reports
         .iter()
-        .filter_map(|report| *report)
+        .copied()
+        .flatten()
         .find(|value| leads(reports, *value, total))
 }
 
@@ -57,6 +51,7 @@ impl ChoiceRule for Majority {
         ensures value { result ≡ majority reports.now }
         ensures exact { Exactly result (λ v. Most v reports.now) }
     {
-        leader(reports, count_values(reports))
+        let total = reports.iter().copied().flatten().count();
+        leader(reports, total)
     }
 }

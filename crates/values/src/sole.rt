@@ -12,17 +12,14 @@ pub struct Sole;
 fn first_value(reports: &[Option<u64>]) -> Option<u64>
     ensures { result ≡ first_value reports.now }
 {
-    reports.iter().filter_map(|report| *report).next()
+    reports.iter().copied().flatten().next()
 }
 
 /// Whether every report that is a value is `value`.
 fn all_are(reports: &[Option<u64>], value: u64) -> bool
     ensures { result ≡ agree value reports.now }
 {
-    reports
-        .iter()
-        .filter_map(|report| *report)
-        .all(|v| v == value)
+    reports.iter().copied().flatten().all(|v| v == value)
 }
 
 impl ChoiceRule for Sole {

@@ -1,6 +1,8 @@
-use Rattle.std.proofs.Common.{◌≡◌, List, [], ◌∷◌, Some, None, Option, slice_get, refl, ap, rules, tests}
+use Rattle.std.proofs.Common.{◌≡◌, List, [], ◌∷◌, Some, None, Option, slice_get, refl, ap}
+use Rattle.std.specs.Option.{option_to_list}
 use Rattle.std.proofs.lemmas.Iterator.{YieldsList, YieldsList-from_slice}
-use Rattle.std.proofs.lemmas.Iterator.Consumers.{YieldsList-from_filter_map}
+use Rattle.std.proofs.lemmas.Iterator.Adapters.{YieldsList-from_flatten, YieldsList-from_once}
+use Rattle.std.proofs.lemmas.Iterator.Consumers.{YieldsList-from_copied}
 use Rattle.values.specs.Reports.{reported_values}
 use Rattle.values.proofs.sole.first_value.Goals as goal
 
@@ -14,6 +16,7 @@ first_item steps s t (Some x) (y ∷ xs) step road = ap Some (road.runs.1 x t st
 
 pub returns : goal.returns
 returns c =
-    let rs = c.args.reports.now in
-    let values = YieldsList-from_filter_map _ (λ r. r) (YieldsList-from_slice rs cc) (cc) (λ x b q k. search (rules, tests)) in
-    first_item _ _ _ c.next.result (reported_values rs) c.next.ensures.steps values
+    let reports = YieldsList-from_copied (YieldsList-from_slice c.args.reports.now cc) in
+    let values = YieldsList-from_flatten _ _ (λ x. x) option_to_list (λ o j b. YieldsList-from_once o b.0) reports
+    c.flatten.ensures.front c.flatten.ensures.back c.flatten.ensures.done in
+    first_item _ _ _ c.next.result (reported_values c.args.reports.now) c.next.ensures.steps values
