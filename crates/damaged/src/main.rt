@@ -12,15 +12,12 @@ mod shown;
 mod worked_cases;
 
 use console::Tally;
-use seals::{CodeBook, counting_words};
 
 fn run(rt: &impl Print) -> anyhow::Result<()> {
     let mut tally = Tally::new(rt);
-    let words = counting_words();
-    let code_book = CodeBook::new(&words);
     path_cases::run(&mut tally)?;
-    packet_cases::run(&mut tally, &code_book)?;
-    worked_cases::run(&mut tally, &code_book)?;
+    packet_cases::run(&mut tally)?;
+    worked_cases::run(&mut tally)?;
     tally.close()?;
     Ok(())
 }

@@ -2,14 +2,12 @@ use crate::expected::{BY_CODE_BOOK, BY_SIP_HASH, Expected, LENGTHS, PATH_LENGTHS
 use crate::places::Places;
 use crate::sample::Sample;
 use console::Tally;
-use seals::{CodeBook, Seal, SipKeys, counting_keys};
+use seals::{CodeBook, Seal, SipKeys, counting_keys, counting_words};
 
 /// Packets under both seals.
-pub(crate) fn run<P: Print>(
-    tally: &mut Tally<P>,
-    code_book: &CodeBook<&[u16]>,
-) -> anyhow::Result<()> {
-    under(tally, code_book, &BY_CODE_BOOK)?;
+pub(crate) fn run<P: Print>(tally: &mut Tally<P>) -> anyhow::Result<()> {
+    let words = counting_words();
+    under(tally, &CodeBook::new(&words), &BY_CODE_BOOK)?;
     under(tally, &SipKeys::new(counting_keys()), &BY_SIP_HASH)
 }
 

@@ -3,7 +3,7 @@ use crate::shown::Shown;
 use arrayvec::ArrayVec;
 use console::Tally;
 use packets::{Malformed, read_front};
-use seals::CodeBook;
+use seals::{CodeBook, counting_words};
 use std::io;
 use worked::worked_packets;
 
@@ -32,7 +32,7 @@ fn front(bytes: &[u8]) -> Shown<usize, Malformed> {
 }
 
 /// The worked packets: their bytes, both read from one list of bytes, and the first with a wrong tag.
-pub(crate) fn run<P: Print>(tally: &mut Tally<P>, code_book: &CodeBook<&[u16]>) -> io::Result<()> {
+pub(crate) fn run<P: Print>(tally: &mut Tally<P>) -> io::Result<()> {
     let (sent, relayed) = worked_packets();
     tally.case(
         SUBJECT,
@@ -47,7 +47,7 @@ pub(crate) fn run<P: Print>(tally: &mut Tally<P>, code_book: &CodeBook<&[u16]>) 
         differing(&RELAYED, &relayed),
     )?;
     end_to_end(tally, &sent, &relayed)?;
-    last_byte(tally, code_book, sent)
+    last_byte(tally, sent)
 }
 
 /// Both packets, read from one list of bytes.
@@ -77,14 +77,12 @@ fn end_to_end<P: Print>(
 }
 
 /// The sent packet as it is, and with a wrong tag.
-fn last_byte<P: Print>(
-    tally: &mut Tally<P>,
-    seal: &CodeBook<&[u16]>,
-    sent: [u8; 17],
-) -> io::Result<()> {
+fn last_byte<P: Print>(tally: &mut Tally<P>, sent: [u8; 17]) -> io::Result<()> {
+    let words = counting_words();
+    let seal = CodeBook::new(&words);
     let mut wrong = sent;
     wrong[16] = 0x05;
-    let accepted = Shown(check(seal, &sent));
+    let accepted = Shown(check(&seal, &sent));
     tally.case(SUBJECT, "the sent", Shown(Ok(Accepted)), accepted)?;
     tally.case(
         SUBJECT,
@@ -92,7 +90,7 @@ fn last_byte<P: Print>(
         Shown(Ok(17)),
         front(&wrong),
     )?;
-    let refused = Shown(check(seal, &wrong));
+    let refused = Shown(check(&seal, &wrong));
     tally.case(
         SUBJECT,
         "the sent with last byte 05",
