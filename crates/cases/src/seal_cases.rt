@@ -27,7 +27,7 @@ fn code_book<P: Print>(tally: &mut Tally<P>, seal: &CodeBook<&[u16]>) -> io::Res
     ] {
         tally.case("code book,", name, Bits(expected), Bits(got))?;
     }
-    let width = <CodeBook<&[u16]> as Seal>::WIDTH;
+    let width = <CodeBook<&[u16]> as Seal>::tag_width();
     tally.case("code book,", "bytes of a tag", 2, width)
 }
 
@@ -50,5 +50,6 @@ fn sip_hash<P: Print>(tally: &mut Tally<P>) -> io::Result<()> {
     ] {
         tally.case("SipHash,", name, Bits(expected), Bits(got))?;
     }
-    tally.case("SipHash,", "bytes of a tag", 8, <SipKeys as Seal>::WIDTH)
+    let width = <SipKeys as Seal>::tag_width();
+    tally.case("SipHash,", "bytes of a tag", 8, width)
 }

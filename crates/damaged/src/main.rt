@@ -12,17 +12,16 @@ mod shown;
 mod worked_cases;
 
 use console::Tally;
-use std::alloc::Global;
 
-fn run(rt: &impl Print, alloc: Global) -> anyhow::Result<()> {
+fn run(rt: &impl Print) -> anyhow::Result<()> {
     let mut tally = Tally::new(rt);
     path_cases::run(&mut tally)?;
-    packet_cases::run(&mut tally, alloc)?;
-    worked_cases::run(&mut tally, alloc)?;
+    packet_cases::run(&mut tally)?;
+    worked_cases::run(&mut tally)?;
     tally.close()?;
     Ok(())
 }
 
 fn main(rt: HostRuntime) -> anyhow::Result<()> {
-    run(&rt, rt.alloc())
+    run(&rt)
 }

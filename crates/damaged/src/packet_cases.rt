@@ -1,27 +1,24 @@
 use crate::expected::{BY_CODE_BOOK, BY_SIP_HASH, Expected, LENGTHS, PATH_LENGTHS};
-use crate::places::{self, Write};
+use crate::places::Places;
 use crate::sample::Sample;
 use console::Tally;
 use seals::{CodeBook, Seal, SipKeys, counting_keys, counting_words};
-use std::alloc::Global;
 
 /// Packets under both seals.
-// The tally and the allocator stay two parameters: a struct of both would be taken apart at each call, and be no plainer.
-pub(crate) fn run<P: Print>(tally: &mut Tally<P>, alloc: Global) -> anyhow::Result<()> {
+pub(crate) fn run<P: Print>(tally: &mut Tally<P>) -> anyhow::Result<()> {
     let words = counting_words();
-    under(tally, alloc, &CodeBook::new(&words), &BY_CODE_BOOK)?;
-    under(tally, alloc, &SipKeys::new(counting_keys()), &BY_SIP_HASH)
+    under(tally, &CodeBook::new(&words), &BY_CODE_BOOK)?;
+    under(tally, &SipKeys::new(counting_keys()), &BY_SIP_HASH)
 }
 
 /// Packets under one seal.
 fn under<P: Print, S: Seal>(
     tally: &mut Tally<P>,
-    alloc: Global,
     seal: &S,
     list: &[Expected],
 ) -> anyhow::Result<()> {
     for expected in list {
-        one_packet(tally, alloc, seal, expected)?;
+        one_packet(tally, seal, expected)?;
     }
     Ok(())
 }
@@ -29,37 +26,37 @@ fn under<P: Print, S: Seal>(
 /// One packet with its bytes cut, changed, and written at every place.
 fn one_packet<P: Print, S: Seal>(
     tally: &mut Tally<P>,
-    alloc: Global,
     seal: &S,
     expected: &Expected,
 ) -> anyhow::Result<()> {
     let subject = expected.subject;
     let path = expected.path()?;
-    let sample = Sample::new(alloc, seal, &path)?;
-    tally.case(subject, "every length", LENGTHS, sample.lengths()?)?;
+    let mut sample = Sample::new(seal, &path);
+    let places = Places::of(seal, &path);
+    tally.case(subject, "every length", LENGTHS, sample.lengths())?;
     tally.case(
         subject,
         "every path length",
         PATH_LENGTHS,
-        sample.path_lengths()?,
+        sample.path_lengths(),
     )?;
     tally.case(
         subject,
         "each byte changed",
         expected.changes(),
-        sample.changes()?,
+        sample.changes(),
     )?;
     tally.case(
         subject,
         "places with room, only the packet changed",
         expected.written,
-        places::count(seal, &path, Write::Done),
+        places.written(),
     )?;
     tally.case(
         subject,
         "places without room, nothing changed",
         expected.refused,
-        places::count(seal, &path, Write::Refused),
+        places.refused(),
     )?;
     Ok(())
 }

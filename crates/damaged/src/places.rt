@@ -1,6 +1,7 @@
 use packets::write;
 use paths::Path;
 use seals::Seal;
+use std::array;
 use worked::NOTICE;
 
 /// How many bytes a buffer has.
@@ -11,11 +12,17 @@ const FILLED: u8 = 0xee;
 
 /// What came of a write.
 #[derive(Clone, Copy, PartialEq, Eq)]
-pub enum Write {
+enum Write {
     /// It was done, and nothing beside the packet changed.
     Done,
     /// There was no room, and nothing changed.
     Refused,
+}
+
+/// What came of writes at every place.
+#[derive(Clone, Copy)]
+pub struct Places {
+    outcomes: [Option<Write>; ROOM + 1],
 }
 
 /// Whether every byte is as it was filled.
@@ -35,9 +42,29 @@ fn outcome<S: Seal>(seal: &S, path: &Path, at: usize) -> Option<Write> {
     }
 }
 
-/// At how many places, 0 to the buffer's end, a write has this outcome.
-pub(crate) fn count<S: Seal>(seal: &S, path: &Path, wanted: Write) -> usize {
-    (0..=ROOM)
-        .filter(|at| outcome(seal, path, *at) == Some(wanted))
-        .count()
+impl Places {
+    /// Writes the notice at the places 0 to the buffer's end.
+    pub(crate) fn of<S: Seal>(seal: &S, path: &Path) -> Places {
+        Places {
+            outcomes: array::from_fn(|at| outcome(seal, path, at)),
+        }
+    }
+
+    /// At how many places a write has this outcome.
+    fn count(&self, wanted: Write) -> usize {
+        self.outcomes
+            .iter()
+            .filter(|outcome| **outcome == Some(wanted))
+            .count()
+    }
+
+    /// At how many places the packet was written, and nothing beside it changed.
+    pub(crate) fn written(&self) -> usize {
+        self.count(Write::Done)
+    }
+
+    /// At how many places there was no room, and nothing changed.
+    pub(crate) fn refused(&self) -> usize {
+        self.count(Write::Refused)
+    }
 }

@@ -1,9 +1,9 @@
 use crate::check::{Accepted, Refused, check};
 use crate::shown::Shown;
+use arrayvec::ArrayVec;
 use console::Tally;
 use packets::{Malformed, read_front};
 use seals::{CodeBook, counting_words};
-use std::alloc::Global;
 use std::io;
 use worked::worked_packets;
 
@@ -32,7 +32,7 @@ fn front(bytes: &[u8]) -> Shown<usize, Malformed> {
 }
 
 /// The worked packets: their bytes, both read from one list of bytes, and the first with a wrong tag.
-pub(crate) fn run<P: Print>(tally: &mut Tally<P>, alloc: Global) -> anyhow::Result<()> {
+pub(crate) fn run<P: Print>(tally: &mut Tally<P>) -> io::Result<()> {
     let (sent, relayed) = worked_packets();
     tally.case(
         SUBJECT,
@@ -46,19 +46,19 @@ pub(crate) fn run<P: Print>(tally: &mut Tally<P>, alloc: Global) -> anyhow::Resu
         0,
         differing(&RELAYED, &relayed),
     )?;
-    end_to_end(tally, alloc, &sent, &relayed)?;
-    last_byte(tally, sent)?;
-    Ok(())
+    end_to_end(tally, &sent, &relayed)?;
+    last_byte(tally, sent)
 }
 
 /// Both packets, read from one list of bytes.
 fn end_to_end<P: Print>(
     tally: &mut Tally<P>,
-    alloc: Global,
     sent: &[u8; 17],
     relayed: &[u8; 20],
-) -> anyhow::Result<()> {
-    let both = [&sent[..], &relayed[..]].concat(alloc)?;
+) -> io::Result<()> {
+    let mut both = ArrayVec::<u8, 37>::new();
+    both.try_extend_from_slice(sent).unwrap();
+    both.try_extend_from_slice(relayed).unwrap();
     let rest = &both[sent.len()..];
     let nothing = &rest[relayed.len()..];
     let cases = [

@@ -90,7 +90,7 @@ decode-form w b p bytes r =
 
 -- Tags that hold are those that the stations make.
 
-pub hold-tags : (tag : ℕ → List ℕ → ℕ) (p : Parts) (i : ℕ) → i ≤ length p.tags → hold_to tag p i ≡ true → take i p.tags ≡ tags_for tag p.header p.path i
+hold-tags : (tag : ℕ → List ℕ → ℕ) (p : Parts) (i : ℕ) → i ≤ length p.tags → hold_to tag p i ≡ true → take i p.tags ≡ tags_for tag p.header p.path i
 hold-tags tag p zero l e = refl
 hold-tags tag p (suc i) l e =
     let both = and_parts (hold_to tag p i) (eqb (get_or p.tags i 0) (tag_for tag p.header p.path i)) e in

@@ -1,4 +1,4 @@
-ghost use Rattle.std.specs.Prelude.{◌≡◌, ◌<◌, ◌≤◌, length};
+ghost use Rattle.std.specs.Prelude.{◌≡◌, ◌<◌, ◌≤◌, ◌==◌, length};
 ghost use Rattle.packets.specs.Form.{parts_of};
 ghost use Rattle.packets.specs.Laws.{MadeByStations};
 ghost use Rattle.packets.specs.Tags.{sealed_bytes, tag_for, tags_for, tags_hold};
@@ -50,13 +50,23 @@ impl Unsealed<'_> {
         tags
     }
 
-    /// Whether these are the seal's tags of all stations.
-    #[tactic(auto, using(crate::proofs::Held::held, crate::proofs::Held::made))]
+    /// Whether this is the seal's tag of the station at place `i`.
+    fn has_tag<S: Seal>(&self, seal: &S, i: usize, tag: u64) -> bool
+        requires { i < length self.now.stations.now }
+        ensures { result ≡ (tag == tag_for (S.meaning seal.now) self.now.header self.now.stations.now i) }
+    {
+        tag == self.tag(seal, i)
+    }
+
+    /// Whether these are the seal's tags of all stations. It stops at the first that is not.
+    #[tactic(auto, using(crate::proofs::Held::made))]
     pub(crate) fn has_tags<S: Seal>(&self, seal: &S, tags: &[u64]) -> bool
         requires { length tags.now ≡ length self.now.stations.now }
         ensures is { result ≡ tags_hold (S.meaning seal.now) (parts_of self.now.header self.now.stations.now tags.now) }
         ensures made { MadeByStations (S.meaning seal.now) (parts_of self.now.header self.now.stations.now tags.now) }
     {
-        tags == self.tags(seal).as_slice()
+        tags.iter()
+            .enumerate()
+            .all(|(i, tag)| self.has_tag(seal, i, *tag))
     }
 }

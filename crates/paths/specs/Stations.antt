@@ -1,7 +1,8 @@
 -- Lists of station numbers.
-use Rattle.std.specs.Prelude.{ℕ, ◌-◌, ◌≤◌, Bool, true, cond, not, ◌&&◌, List, [], ◌∷◌, ◌++◌, length, Some, None, Option, ◌==◌, nat_le, slice_index}
+use Rattle.std.specs.Prelude.{ℕ, ◌-◌, ◌≤◌, Bool, true, cond, not, ◌&&◌, List, [], ◌∷◌, ◌++◌, length, Some, None, Option, ◌==◌, nat_le, slice_index, codes}
 use Rattle.std.specs.Cmp.Lexicographic.{slice_cmp}
-use Rattle.std.specs.List.{list_any}
+use Rattle.std.specs.Fmt.{decimal}
+use Rattle.std.specs.List.{list_any, flat_map}
 use Rattle.std.specs.Ordering.{nat_cmp}
 use Rattle.std.specs.declared.cmp.Ordering.{Ordering}
 
@@ -35,3 +36,8 @@ extended t q = cond (is_path (t ++ q ∷ [])) (Some (t ++ q ∷ [])) None
 -- the order of paths, station by station; where one begins with the other, the shorter comes first
 abbrev pub compared : List ℕ → List ℕ → Ordering
 compared = slice_cmp nat_cmp
+
+-- the stations' numbers as text, parted by spaces
+abbrev pub stations_text : List ℕ → List ℕ
+stations_text [] = []
+stations_text (x ∷ xs) = decimal x ++ flat_map (λ y. codes " " ++ decimal y) xs

@@ -1,11 +1,11 @@
-ghost use Rattle.std.specs.Prelude.{◌≡◌, ◌==◌, ◌≢◌, ◌↔◌, true, false, [], ◌∷◌, length, take, IsTrue, IsErrOf};
+ghost use Rattle.std.specs.Prelude.{◌≡◌, ◌<◌, ◌==◌, ◌≢◌, ◌↔◌, true, false, [], ◌∷◌, length, take, slice_index, Some, IsTrue, IsErrOf};
 ghost use Rattle.std.specs.Cmp.{partial_order_from_own_ties};
 ghost use Rattle.std.specs.Cmp.Lexicographic.{pointwise};
 ghost use Rattle.std.specs.Cmp.Rules.{comparing};
 ghost use Rattle.std.specs.Ordering.{on, as_partial_cmp};
 ghost use Rattle.std.specs.Result.{result_ok};
 ghost use Rattle.std.proofs.Common.{rules};
-ghost use Rattle.paths.specs.Stations.{names, distinct, first_of, last_of, extended, compared, IsPathLength};
+ghost use Rattle.paths.specs.Stations.{names, distinct, first_of, last_of, extended, compared, IsPathLength, stations_text};
 
 use crate::row::{LONGEST, Row};
 use std::cmp::Ordering;
@@ -36,14 +36,27 @@ pub enum NotAPath {
     StationTwice,
 }
 
+/// Whether a station is among those of a list.
+// A chain, which the compiler puts in place: `contains` of a slice is a call, and takes several times as long for four stations.
+fn among(stations: &[u8], station: u8) -> bool
+    ensures { result ≡ names stations.now station }
+{
+    stations.iter().any(|named| *named == station)
+}
+
+/// Whether the station at a place is named before it.
+fn is_named_before(stations: &[u8], at: usize) -> bool
+    requires { at < length stations.now }
+    ensures { result ≡ names (take at stations.now) (slice_index stations.now at) }
+{
+    among(&stations[..at], stations[at])
+}
+
 /// Whether no station is named twice.
 fn are_distinct(stations: &[u8]) -> bool
     ensures { result ≡ distinct stations.now }
 {
-    match stations {
-        [] => true,
-        [first, rest @ ..] => !rest.contains(first) && are_distinct(rest),
-    }
+    (0..stations.len()).all(|at| !is_named_before(stations, at))
 }
 
 impl TryFrom<Row> for Path {
@@ -139,7 +152,7 @@ impl Path {
     pub fn contains(&self, station: u8) -> bool
         ensures { result ≡ names (stations self.now) station }
     {
-        self.stations().contains(&station)
+        among(self.stations(), station)
     }
 
     /// The path with one more station. Whether it has four already is looked at first.
@@ -165,14 +178,18 @@ impl Path {
 }
 
 /// The stations, parted by spaces.
-// The programs show bytes in a loop like this. One for both would take a trait for how an element is shown: no plainer.
+// The programs show bytes likewise. One for both would take a trait for how an element is shown: no plainer.
 impl fmt::Display for Path {
+    ghost use Rattle.paths.specs.Paths.{stations};
+
+    ghost output = { λ path. Some (stations_text (stations path)) };
+
     fn fmt<W: fmt::Write>(&self, f: &mut fmt::Formatter<W>) -> fmt::Result {
-        for (i, station) in self.stations().iter().enumerate() {
-            if i > 0 {
-                f.write_str(" ")?;
+        if let [first, rest @ ..] = self.stations() {
+            write!(f, "{first}")?;
+            for station in rest {
+                write!(f, " {station}")?;
             }
-            write!(f, "{station}")?;
         }
         Ok(())
     }

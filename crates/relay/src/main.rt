@@ -8,9 +8,10 @@ mod relaying;
 
 use packets::Header;
 use seals::{CodeBook, SipKeys, counting_keys, counting_words};
+use std::io;
 use values::{Kind, Reading, Readings};
 
-fn main(rt: HostRuntime) -> anyhow::Result<()> {
+fn main(rt: HostRuntime) -> io::Result<()> {
     println!(rt; "Sounding 1, level 7, sender 0")?;
     // The reading of `flight`, which tells of the same level: a library for one constant would be no plainer.
     let reading = Reading {

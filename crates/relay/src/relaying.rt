@@ -1,53 +1,48 @@
 use crate::changes::Changes;
 use crate::receive::receive;
+use arrayvec::ArrayVec;
 use console::Hex;
-use packets::{Header, packet_length, write};
+use packets::{Header, write};
 use paths::{NotAPath, Path};
 use seals::Seal;
-use std::alloc::{AllocError, Global};
 use std::io;
+
+/// How many bytes the longest packet takes: a path of four stations, and tags of eight bytes.
+const LONGEST_PACKET: usize = 50;
+
+/// A packet on the air.
+type Sent = ArrayVec<u8, LONGEST_PACKET>;
 
 // The runtime and the seal stay two parameters here: a struct of both would be taken apart at each call, and be no plainer.
 
 /// A packet goes from its sender through stations 1 to 3, and station 4 hears it. Then it is damaged in each way that one bit
 /// allows.
-pub(crate) fn tell<S: Seal>(
-    rt: &(impl Print + AllocGlobal),
-    seal: &S,
-    header: Header,
-) -> anyhow::Result<()> {
-    let mut packet = packet_by(rt.alloc(), seal, header, &Path::start(0))?;
+pub(crate) fn tell<S: Seal>(rt: &impl Print, seal: &S, header: Header) -> io::Result<()> {
+    let mut packet = packet_by(seal, header, &Path::start(0));
     println!(rt; "  station 0 sends {}", Hex(&packet))?;
     for station in 1..5u8 {
         if let Some(relayed) = hear(rt, seal, station, &packet)? {
             packet = relayed;
         }
     }
-    damage(rt, seal, &mut packet)?;
-    Ok(())
+    damage(rt, seal, &mut packet)
 }
 
 /// The packet that says what the header says and has the path's stations and their tags.
-// `damaged` makes its packets likewise. A library can't do it for both, since libraries here have no heap.
-fn packet_by<S: Seal>(
-    alloc: Global,
-    seal: &S,
-    header: Header,
-    path: &Path,
-) -> Result<Vec<u8>, AllocError> {
-    let length = packet_length::<S>(path.len()).unwrap();
-    let mut bytes = vec![in alloc; 0; length]?;
-    write(seal, header, path, &mut bytes, 0).unwrap();
-    Ok(bytes)
+fn packet_by<S: Seal>(seal: &S, header: Header, path: &Path) -> Sent {
+    let mut bytes = Sent::from([0; LONGEST_PACKET]);
+    let length = write(seal, header, path, &mut bytes, 0).unwrap();
+    bytes.truncate(length);
+    bytes
 }
 
 /// A station receives a packet, and what it relays, if anything.
 fn hear<S: Seal>(
-    rt: &(impl Print + AllocGlobal),
+    rt: &impl Print,
     seal: &S,
     station: u8,
     packet: &[u8],
-) -> anyhow::Result<Option<Vec<u8>>> {
+) -> io::Result<Option<Sent>> {
     let heard = match receive(seal, packet) {
         Ok(heard) => heard,
         Err(refused) => {
@@ -70,7 +65,7 @@ fn hear<S: Seal>(
             return Ok(None);
         }
     };
-    let relayed = packet_by(rt.alloc(), seal, heard.header, &path)?;
+    let relayed = packet_by(seal, heard.header, &path);
     println!(rt; "  station {station} relays {}", Hex(&relayed))?;
     Ok(Some(relayed))
 }

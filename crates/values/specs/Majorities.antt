@@ -5,7 +5,7 @@ use Rattle.std.proofs.Common.{sym, ap, subst, ◌∙◌, ⊎_elim, arith}
 use Rattle.std.proofs.lemmas.Bool.{ltb-true, lt-ltb, eq-eqb, ne_eqb, cases_eq}
 use Rattle.std.proofs.lemmas.Bool.Decides.{nat_tests}
 use Rattle.std.proofs.lemmas.List.Sums.{sum_by-cons}
-use Rattle.values.specs.Reports.{Reported, first, later, reported_values, values, votes, leading, Most, Exactly, majority}
+use Rattle.values.specs.Reports.{Reported, first, later, reported_values, values, votes, leading, Most, Exactly, leader, majority}
 use Rattle.values.specs.Laws.{NoneWithoutValue, UnanimousValueGiven}
 use Rattle.values.specs.Members.{reported_values-silent, find_passes, find_only}
 
@@ -38,6 +38,19 @@ one-most : (v w : ℕ) (rs : List (Option ℕ)) → Most v rs → Most w rs → 
 one-most v w rs mv mw =
     ⊎_elim (λ same. same) (λ other. absurd (omega (arith, votes-apart v w rs other))) (cases_eq w v)
 
+-- what is given makes up more than half
+leader-most : (all rs : List (Option ℕ)) (v : ℕ) → leader all rs ≡ Some v → Most v all
+leader-most all rs v e = ltb-true _ _ (find_passes (λ w. leading w all) (reported_values rs) v e)
+
+-- what makes up more than half of all, and is reported here, is given
+most-leader : (all rs : List (Option ℕ)) (v : ℕ) → Most v all → Reported v rs → leader all rs ≡ Some v
+most-leader all rs v m =
+    find_only (λ w. leading w all) rs v (lt-ltb _ _ m) (λ w t. one-most v w all m (ltb-true _ _ t))
+
+-- where no value is reported none is given
+silent-leader : (all rs : List (Option ℕ)) → ((v : ℕ) → Reported v rs → ⊥) → leader all rs ≡ None
+silent-leader all rs h = rw (reported_values-silent rs h)
+
 -- where v alone is reported, every value is v
 only-votes : (v : ℕ) (rs : List (Option ℕ)) → ((w : ℕ) → Reported w rs → w ≡ v) → votes v rs ≡ values rs
 only-votes v [] h = refl
@@ -54,18 +67,15 @@ some-values v (Some x ∷ rs) k = omega arith
 
 -- the two laws
 pub majority-silent : NoneWithoutValue majority
-majority-silent rs h = rw (reported_values-silent rs h)
+majority-silent rs h = silent-leader rs rs h
 
 -- what makes up more than half is given
 most-majority : (rs : List (Option ℕ)) (v : ℕ) → Most v rs → majority rs ≡ Some v
-most-majority rs v m =
-    find_only (λ w. leading w rs) rs v (lt-ltb _ _ m) (λ w t. one-most v w rs m (ltb-true _ _ t))
-    (voted-reported v rs (omega arith))
+most-majority rs v m = most-leader rs rs v m (voted-reported v rs (omega arith))
 
 pub only-majority : UnanimousValueGiven majority
 only-majority rs v o = most-majority rs v (omega (arith, only-votes v rs o.1, some-values v rs o.0))
 
 -- what the rule gives, in its own words
 pub majority-exact : (rs : List (Option ℕ)) (r : Option ℕ) → r ≡ majority rs → Exactly r (λ v. Most v rs)
-majority-exact rs r is v =
-    (λ e. ltb-true _ _ (find_passes (λ w. leading w rs) (reported_values rs) v (sym is ∙ e)), λ m. is ∙ most-majority rs v m)
+majority-exact rs r is v = (λ e. leader-most rs rs v (sym is ∙ e), λ m. is ∙ most-majority rs v m)

@@ -1,8 +1,12 @@
 -- Which values stand in a list of reports.
 use Rattle.std.specs.Prelude.{◌≡◌, ℕ, ◌⊎◌, Bool, true, List, [], ◌∷◌, Some, None, Option, find, refl}
-use Rattle.std.proofs.Common.{inl, inr, ap, ◌∙◌, ⊎_elim}
+use Rattle.std.proofs.Common.{inl, inr, ap, ◌∙◌, ⊎_elim, arith}
 use Rattle.std.proofs.lemmas.Bool.{cases_Bool, both_ways}
 use Rattle.values.specs.Reports.{Reported, first, later, reported_values}
+
+-- none is no value
+pub none-given : {A : Type 0} (v : ℕ) → ◌≡◌ {A = Option ℕ} None (Some v) → A
+none-given v e = let z : ◌≡◌ {A = ℕ} 0 1 = cc in absurd (omega arith)
 
 -- what stands in a list is its first value, or stands behind it
 pub here-or-later : (v x : ℕ) (rs : List (Option ℕ)) → Reported v (Some x ∷ rs) → (x ≡ v) ⊎ Reported v rs
@@ -17,7 +21,7 @@ reported_values-silent (Some v ∷ rs) h = absurd (h v first)
 
 -- what is found passes the test
 pub find_passes : (p : ℕ → Bool) (xs : List ℕ) (v : ℕ) → find p xs ≡ Some v → p v ≡ true
-find_passes p [] v e = cc
+find_passes p [] v e = none-given v e
 find_passes p (x ∷ xs) v e =
     ⊎_elim (λ yes. let same : x ≡ v = cc in cc) (λ no. find_passes p xs v (rw no at e)) (cases_Bool (p x))
 

@@ -1,6 +1,7 @@
 -- Level readings: their 64 bits, and which are allowed.
-use Rattle.std.specs.Prelude.{ℕ, ◌+◌, ◌*◌, ◌/◌, ◌%◌, ◌^◌, Bool, ◌&&◌, pos, negsuc, int_le, nat_le}
-use Rattle.std.specs.Int.{w16, w32, cast_unsigned, cast_signed}
+use Rattle.std.specs.Prelude.{ℕ, ℤ, ◌+◌, ◌*◌, ◌/◌, ◌%◌, ◌^◌, Bool, ◌&&◌, List, ◌∷◌, ◌++◌, pos, negsuc, int_le, nat_le, unsigned_abs, codes}
+use Rattle.std.specs.Fmt.{decimal, signed_decimal, sign_text}
+use Rattle.std.specs.Int.{w16, w32, cast_unsigned, cast_signed, is_negative}
 use Rattle.values.specs.declared.reading.Reading.{Reading}
 
 -- the 64 bits of a reading, from the high end down: 32 for the height, 16 each for pressure and temperature;
@@ -26,3 +27,15 @@ in_range r =
 -- the kind allows the bits of a reading that is in range
 abbrev pub reading_allowed : ℕ → Bool
 reading_allowed v = in_range (reading_of v)
+
+-- a number of tenths as text, as a decimal fraction
+abbrev pub tenths_text : ℤ → List ℕ
+tenths_text t =
+    sign_text (is_negative t) ++ (decimal (unsigned_abs t / 10) ++ (codes "." ++ decimal (unsigned_abs t % 10)))
+
+-- a reading as text, with its units; 0xc2 and 0xb0 are the two bytes of the sign for a degree
+abbrev pub reading_text : Reading → List ℕ
+reading_text r =
+    codes "height " ++ (signed_decimal r.height
+    ++ (codes " m, pressure " ++ (tenths_text (pos r.pressure)
+    ++ (codes " hPa, temperature " ++ (tenths_text r.temperature ++ (codes " " ++ 0xc2 ∷ 0xb0 ∷ codes "C"))))))

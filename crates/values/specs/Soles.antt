@@ -5,13 +5,17 @@ use Rattle.std.proofs.lemmas.Bool.{eq-eqb, eqb-true, and_parts}
 use Rattle.std.proofs.lemmas.Option.{same_Some, cond_some, option_and_then_some}
 use Rattle.values.specs.Reports.{Reported, first, later, Only, Exactly, first_value, agree, sole}
 use Rattle.values.specs.Laws.{NoneWithoutValue, UnanimousValueGiven}
-use Rattle.values.specs.Members.{here-or-later, reported_values-silent}
+use Rattle.values.specs.Members.{none-given, here-or-later, reported_values-silent}
 
 -- the first value is reported
 first-reported : (rs : List (Option ℕ)) (v : ℕ) → first_value rs ≡ Some v → Reported v rs
-first-reported [] v e = cc
+first-reported [] v e = none-given v e
 first-reported (None ∷ rs) v e = later (first-reported rs v e)
 first-reported (Some w ∷ rs) v e = subst (λ x. Reported v (Some x ∷ rs)) (sym (same_Some w v e)) first
+
+-- where no value is reported there is no first one
+silent-first : (rs : List (Option ℕ)) → ((v : ℕ) → Reported v rs → ⊥) → first_value rs ≡ None
+silent-first rs h = rw (reported_values-silent rs h)
 
 -- where v alone is reported it is the first value
 only-first : (rs : List (Option ℕ)) (v : ℕ) → Reported v rs → ((w : ℕ) → Reported w rs → w ≡ v) → first_value rs ≡ Some v
@@ -34,7 +38,7 @@ all-agree v (Some x ∷ rs) e w k =
 
 -- the two laws
 pub sole-silent : NoneWithoutValue sole
-sole-silent rs h = rw (reported_values-silent rs h)
+sole-silent rs h = rw (silent-first rs h)
 
 pub only-sole : UnanimousValueGiven sole
 only-sole rs v o = rw (only-first rs v o.0 o.1, agree-all v rs o.1)

@@ -1,6 +1,6 @@
-ghost use Rattle.std.specs.Prelude.{◌≡◌};
+ghost use Rattle.std.specs.Prelude.{◌≡◌, Some};
 ghost use Rattle.std.proofs.Common.{lit≤};
-ghost use Rattle.values.specs.Readings.{reading_bits, reading_of, in_range, reading_allowed};
+ghost use Rattle.values.specs.Readings.{reading_bits, reading_of, in_range, reading_allowed, tenths_text, reading_text};
 
 use crate::kind::Kind;
 use std::fmt;
@@ -59,6 +59,8 @@ impl Reading {
 }
 
 impl fmt::Display for Reading {
+    ghost output = { λ reading. Some (reading_text reading) };
+
     fn fmt<W: fmt::Write>(&self, f: &mut fmt::Formatter<W>) -> fmt::Result {
         let height = self.height;
         let pressure = Tenths(self.pressure.into());
@@ -75,6 +77,8 @@ impl fmt::Display for Reading {
 struct Tenths(i32);
 
 impl fmt::Display for Tenths {
+    ghost output = { λ tenths. Some (tenths_text tenths.0) };
+
     fn fmt<W: fmt::Write>(&self, f: &mut fmt::Formatter<W>) -> fmt::Result {
         let sign = if self.0 < 0 { "-" } else { "" };
         let tenths = self.0.unsigned_abs();

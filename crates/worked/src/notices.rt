@@ -2,6 +2,7 @@
 ghost use Rattle.std.specs.Prelude.{◌≡◌, ◌<◌, [], ◌∷◌, length};
 ghost use Rattle.paths.specs.Paths.{stations};
 ghost use Rattle.packets.specs.Form.{encode, packet_length};
+ghost use Rattle.seals.specs.Worked.{counting_words};
 ghost use Rattle.worked.specs.Notices.{notice_by, sent_notice, relayed_notice, WorkedPackets};
 
 use packets::{Header, write};
@@ -17,14 +18,14 @@ pub const NOTICE: Header = Header {
 };
 
 /// The notice that has passed a path, under the books that count, in the bytes that it takes.
-fn notice_over<const N: usize>(path: &Path) -> [u8; N]
-    requires { N ≡ packet_length 2 (length (stations path.now)) }
+fn notice_over<const N: usize>(seal: &CodeBook<&[u16]>, path: &Path) -> [u8; N]
+    requires counting { seal.now.words.now ≡ counting_words }
+    requires room { N ≡ packet_length 2 (length (stations path.now)) }
     ensures is { result ≡ encode 2 (notice_by (stations path.now)) }
     ensures rules { WorkedPackets }
 {
-    let words = counting_words();
     let mut out = [0; N];
-    write(&CodeBook::new(&words), NOTICE, path, &mut out, 0);
+    write(seal, NOTICE, path, &mut out, 0);
     out
 }
 
@@ -41,7 +42,9 @@ pub fn worked_packets() -> ([u8; 17], [u8; 20])
     ensures rules { WorkedPackets }
     ensures value { result ≡ (sent_notice, relayed_notice) }
 {
-    let sent = notice_over(&Path::start(0));
-    let relayed = notice_over(&by_way_of(1));
+    let words = counting_words();
+    let seal = CodeBook::new(&words);
+    let sent = notice_over(&seal, &Path::start(0));
+    let relayed = notice_over(&seal, &by_way_of(1));
     (sent, relayed)
 }

@@ -8,7 +8,7 @@ pub returns : goal.returns
 returns g c =
     record {
       is =
-          notice-written c.new.result.words.now (stations c.args.path.now) _ c.write.new.out c.write.result
-          (c.new.ensures ∙ c.counting_words-words.ensures) (length-replicate g.row.N 0 ∙ c.requires) c.write.ensures.placed;
+          notice-written c.args.seal.now.words.now (stations c.args.path.now) _ c.write.new.out c.write.result
+          c.requires.counting (length-replicate g.row.N 0 ∙ c.requires.room) c.write.ensures.placed;
       rules = worked;
     }
