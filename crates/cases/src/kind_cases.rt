@@ -12,10 +12,12 @@ const GOOD: Reading = Reading {
 
 /// Both kinds at the edges of what they allow.
 pub(crate) fn run<P: Print>(tally: &mut Tally<P>) -> io::Result<()> {
-    tally.case("kind", "of readings", 1, Readings.number())?;
+    let number = Bits(Readings.number().into());
+    tally.case("kind", "of readings", Bits(1), number)?;
     readings(tally)?;
     bits(tally)?;
-    tally.case("kind", "of notices", 2, Notices.number())?;
+    let number = Bits(Notices.number().into());
+    tally.case("kind", "of notices", Bits(2), number)?;
     notices(tally)
 }
 
@@ -74,5 +76,5 @@ fn notices<P: Print>(tally: &mut Tally<P>) -> io::Result<()> {
         let got = allowed(Notices.allows(value));
         tally.case("notice", name, allowed(expected), got)?;
     }
-    tally.case("notice", "burst, bits", 2, u64::from(Notice::Burst))
+    tally.case("notice", "burst, bits", Bits(2), Bits(Notice::Burst.into()))
 }

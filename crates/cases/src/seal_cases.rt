@@ -28,7 +28,7 @@ fn code_book<P: Print>(tally: &mut Tally<P>, seal: &CodeBook<&[u16]>) -> io::Res
         tally.case("code book,", name, Bits(expected), Bits(got))?;
     }
     let width = <CodeBook<&[u16]> as Seal>::tag_width();
-    tally.case("code book,", "bytes of a tag", 2, width)
+    tally.case("code book,", "bytes of a tag", Bits(2), Bits(width as u64))
 }
 
 /// SipHash with the published key at station 6, at the station numbers 5 to 7.
@@ -51,5 +51,5 @@ fn sip_hash<P: Print>(tally: &mut Tally<P>) -> io::Result<()> {
         tally.case("SipHash,", name, Bits(expected), Bits(got))?;
     }
     let width = <SipKeys as Seal>::tag_width();
-    tally.case("SipHash,", "bytes of a tag", 8, width)
+    tally.case("SipHash,", "bytes of a tag", Bits(8), Bits(width as u64))
 }
